@@ -1,0 +1,44 @@
+-- The cards about reading that are proved, by computing: P10, each by a single statement over one list; and the example book, read and written.
+-- The example shows besides that well-formed books exist, so that the laws over them are not empty.
+use Prim.Native.Nat.{ℕ}
+use mathlib.Core.Path.{_≡_, refl}
+use mathlib.Core.List.{List, [], _∷_, _++_}
+use mathlib.Core.Bool.{true}
+use lib.ListN.{take}
+use Rattle.book.specs.Reader.{each, opened}
+use Rattle.book.specs.Book.{Span, Lightpath, RouteBook, below, every, count, kinds, some, spanEnds, lightpathEnds, lengthFits, walks, follows, wellFormed}
+use Rattle.book.specs.Format.{bytesOf, encode, book, good, refused, reading}
+
+-- docs/BOOK.md, the example book E
+abbrev pub E : List ℕ
+E =
+    0x48 ∷ 0x44 ∷ 4 ∷ 5 ∷ 4 ∷ 1
+    ∷ 0x4e ∷ 0x44 ∷ 1 ∷ 0x4e ∷ 0x44 ∷ 1 ∷ 0x4e ∷ 0x44 ∷ 1 ∷ 0x4e ∷ 0x44 ∷ 1
+    ∷ 0x53 ∷ 0x50 ∷ 0 ∷ 1 ∷ 2 ∷ 0x53 ∷ 0x50 ∷ 1 ∷ 2 ∷ 2 ∷ 0x53 ∷ 0x50 ∷ 2 ∷ 3 ∷ 2
+    ∷ 0x53 ∷ 0x50 ∷ 3 ∷ 0 ∷ 2 ∷ 0x53 ∷ 0x50 ∷ 0 ∷ 2 ∷ 2
+    ∷ 0x4c ∷ 0x50 ∷ 0 ∷ 1 ∷ 1 ∷ 0 ∷ 0x4c ∷ 0x50 ∷ 1 ∷ 2 ∷ 1 ∷ 1
+    ∷ 0x4c ∷ 0x50 ∷ 2 ∷ 3 ∷ 1 ∷ 2 ∷ 0x4c ∷ 0x50 ∷ 3 ∷ 0 ∷ 2 ∷ 2 ∷ 4
+    ∷ 0x41 ∷ 0x4c ∷ 3 ∷ 1 ∷ 3
+    ∷ 0x45 ∷ 0x4e ∷ []
+
+abbrev span : ℕ → ℕ → ℕ → Span
+span a b l = record { left = a; right = b; limit = l }
+
+abbrev lightpath : ℕ → ℕ → List ℕ → Lightpath
+lightpath a b r = record { ends = record { from = a; to = b }; route = record { spans = r } }
+
+abbrev pub example : RouteBook
+example = record {
+  nodes = true ∷ true ∷ true ∷ true ∷ [];
+  spans = span 0 1 2 ∷ span 1 2 2 ∷ span 2 3 2 ∷ span 3 0 2 ∷ span 0 2 2 ∷ [];
+  lightpaths = lightpath 0 1 (0 ∷ []) ∷ lightpath 1 2 (1 ∷ []) ∷ lightpath 2 3 (2 ∷ []) ∷ lightpath 3 0 (2 ∷ 4 ∷ []) ∷ [];
+  alternatives = record { lightpath = 3; route = record { spans = 3 ∷ [] } } ∷ [];
+}
+
+pub e-reads : (reading E ≡ good example) × (encode example ≡ E) × (wellFormed example ≡ true)
+unfolding reading book each opened below some count kinds walks lengthFits spanEnds lightpathEnds follows encode bytesOf wellFormed every
+e-reads = (refl, refl, refl)
+
+pub P10 : (reading [] ≡ refused 1 0) × (reading (take 74 E) ≡ refused 1 73) × (reading (E ++ (0 ∷ [])) ≡ refused 9 75)
+unfolding reading book each opened below some count kinds walks lengthFits spanEnds lightpathEnds follows
+P10 = (refl, refl, refl)

@@ -1,0 +1,24 @@
+-- The laws of crate book; docs/PROMISES.md lists the theorems among them.
+pub mod Tests
+pub mod Readers
+pub mod Records
+pub mod Format
+pub mod Stands
+pub mod Refusals
+pub mod Longest
+pub mod Bits
+pub mod Numbers
+pub mod Walking
+pub mod Stations
+pub mod Tallies
+pub mod Routes
+pub mod Padded
+pub mod Rows
+pub mod Turns
+pub mod Filling
+pub mod Lightpaths
+pub mod Stages
+pub mod Replies
+pub mod Words
+pub mod Unique
+pub mod Cards

@@ -1,0 +1,42 @@
+-- The words of a route hold span x exactly if the route holds it: each span is put in one by one, at its own place.
+-- This is what whoever asks "does this route ride that span" of a book in memory relies on.
+use Prim.Native.Nat.{ℕ, zero, suc, _+_, _*_, _/_, _%_, _≤_, _<_}
+use mathlib.Core.Path.{_≡_, refl, sym, ap, _∙_}
+use mathlib.Core.List.{List, [], _∷_}
+use mathlib.Core.Bool.{Bool, true, false, _||_}
+use native.Mathlib.Decide.{ℕ-discrete}
+use native.Mathlib.Omega.{arith}
+use lib.Dec.{eqb}
+use borrow.Author.Tests.{eq-eqb, ne-eqb, eqb-true, eqb-false}
+use Rattle.book.specs.Bits.{bit, has, put, putIf, wordInto, spanWord}
+use Rattle.book.specs.Book.{among}
+use Rattle.book.proofs.Bits.{bit-of-zero, put-same, put-other}
+
+or-turn : (a b c : Bool) → ((a || b) || c) ≡ (b || (a || c))
+or-turn true true c = refl
+or-turn true false c = refl
+or-turn false b c = refl
+
+-- one span more
+put-span : (w x s i : ℕ) → i < 64 → has (putIf (eqb (s / 64) w) x (s % 64)) i ≡ (eqb (64 * w + i) s || has x i)
+unfolding has
+put-span w x s i l = go (eqb (s / 64) w) refl (ℕ-discrete i (s % 64))
+  where
+    go : (t : Bool) → eqb (s / 64) w ≡ t → Dec (i ≡ s % 64) → eqb (bit (putIf t x (s % 64)) i) 1 ≡ (eqb (64 * w + i) s || eqb (bit x i) 1)
+    go true e (yes q) = rw (eq-eqb (64 * w + i) s (omega (arith, eqb-true (s / 64) w e)), q, put-same x (s % 64))
+    go true e (no n) = rw (ne-eqb (64 * w + i) s (λ z. n (omega arith)), put-other x (s % 64) i n)
+    go false e q = rw (ne-eqb (64 * w + i) s (λ z. eqb-false (s / 64) w e (omega arith)))
+
+into-has : (w x i : ℕ) (r : List ℕ) → i < 64 → has (wordInto w x r) i ≡ (has x i || among (64 * w + i) r)
+unfolding wordInto
+into-has w x i [] l = or-none (has x i)
+  where
+    or-none : (a : Bool) → a ≡ (a || false)
+    or-none true = refl
+    or-none false = refl
+into-has w x i (s ∷ r) l = into-has w (putIf (eqb (s / 64) w) x (s % 64)) i r l ∙ rw (put-span w x s i l) (or-turn (eqb (64 * w + i) s) (has x i) (among (64 * w + i) r))
+
+-- THE LAW (B48)
+pub word-has : (w i : ℕ) (r : List ℕ) → i < 64 → has (spanWord w r) i ≡ among (64 * w + i) r
+unfolding has
+word-has w i r l = into-has w 0 i r l ∙ rw (bit-of-zero i)

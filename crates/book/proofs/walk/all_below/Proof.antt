@@ -1,0 +1,50 @@
+-- What is left of the route has all its numbers below n exactly if the whole has, as long as each one passed was.
+use borrow.Author.Needs.{needs}
+use mathlib.Core.Path.{_≡_, refl, sym, _∙_}
+use Prim.Native.Nat.{_-_, _≤_, zero-le}
+use lib.ListN.{length, drop}
+use Rattle.book.specs.Book.{below}
+use Rattle.book.proofs.Walking.{below-more, below-stop, below-none}
+use Rattle.book.proofs.walk.all_below.Statement.{statement}
+use Rattle.book.proofs.walk.all_below.Tie as tie
+
+abbrev Inv-loop : tie.InvT-loop
+Inv-loop route n j₀ j = (j ≤ length route) × (below n route ≡ below n (drop j route))
+
+abbrev μ-loop : tie.MeasureT-loop
+μ-loop route n j₀ j = length route - j
+
+loop-holds : tie.Need-loop-holds Inv-loop μ-loop
+loop-holds c = (zero-le, refl)
+
+shared-slice-read-if1 : tie.Need-shared-slice-read-if1 Inv-loop μ-loop
+shared-slice-read-if1 c = search needs
+
+returns : tie.Need-returns Inv-loop μ-loop
+returns c = sym (c .before .before .before .loop .inv .1 ∙ below-stop _ _ (c .before .before .before .loop .j) (c .before .before .loop-test .taken) (c .if1 .taken))
+
+add-j : tie.Need-add-j Inv-loop μ-loop
+add-j c = search needs
+
+loop-less : tie.Need-loop-less Inv-loop μ-loop
+loop-less c = search needs
+
+loop-again : tie.Need-loop-again Inv-loop μ-loop
+loop-again c = (search needs, c .before .before .before .loop .inv .1 ∙ below-more _ _ (c .before .before .before .loop .j) (c .before .before .loop-test .taken) (c .if1 .left))
+
+returns-2 : tie.Need-returns-2 Inv-loop μ-loop
+returns-2 c = sym (c .before .loop .inv .1 ∙ below-none _ _ (c .before .loop .j) (c .loop-test .left))
+
+pub all-below-spec : {M : Type 1} → statement M
+all-below-spec =
+    tie.close
+    (tie.spec
+    Inv-loop
+    μ-loop
+    loop-holds
+    shared-slice-read-if1
+    returns
+    add-j
+    loop-less
+    loop-again
+    returns-2)

@@ -1,0 +1,85 @@
+-- What is left of the route walks from the present node exactly if the whole walks from its start.
+-- Each turn is one step of the walk, and a step that fails ends it.
+use borrow.Author.Needs.{needs}
+use mathlib.Core.Path.{_≡_, refl, sym, _∙_}
+use Prim.Native.Nat.{_-_, _≤_, _<_, zero-le}
+use lib.ListN.{length, drop}
+use denote.Ref.{now}
+use Rattle.book.specs.Bits.{put}
+use Rattle.book.specs.Inside.{walksIn}
+use Rattle.book.proofs.Walking.{route-cons, walk-on, walk-off, hop-low, walk-end, below-at}
+use Rattle.book.proofs.walk.walk_ok.Statement.{statement}
+use Rattle.book.proofs.walk.walk_ok.Tie as tie
+
+abbrev Inv-loop : tie.InvT-loop
+Inv-loop route from to left right met₀ p₀ j₀ met p j = (j ≤ length route) × (p < 64) × (walksIn left right (put 0 from) from route to ≡ walksIn left right met p (drop j route) to)
+
+abbrev μ-loop : tie.MeasureT-loop
+μ-loop route from to left right met₀ p₀ j₀ met p j = length route - j
+
+put-requires : tie.Need-put-requires Inv-loop μ-loop
+put-requires c κs = search needs
+
+loop-holds : tie.Need-loop-holds Inv-loop μ-loop
+loop-holds c = (zero-le, c .before .before .pre .2, rw (c .put .ensures))
+
+shared-slice-read-step-over : tie.Need-shared-slice-read-step-over Inv-loop μ-loop
+shared-slice-read-step-over c = search needs
+
+step-over-requires : tie.Need-step-over-requires Inv-loop μ-loop
+step-over-requires c κs = let s = c .before .before .before .before .before in (s .pre .0, below-at 128 _ (c .before .before .loop .j) (s .pre .1) (c .before .loop-test .taken))
+
+enum-known-h : tie.Need-enum-known-h Inv-loop μ-loop
+enum-known-h c = search needs
+
+enum-told : tie.Need-enum-told Inv-loop μ-loop
+enum-told c = search needs
+
+returns : tie.Need-returns Inv-loop μ-loop
+returns c =
+    let l = c .before .before .before .before .before .loop in
+    sym (l .inv .2 ∙ rw (route-cons (now (c .before .before .before .before .before .before .before .before .args .route)) (l .j) (c .before .before .before .before .loop-test .taken))
+    (walk-off _ _ _ _ _ _ (c .before .before .step-over .ensures) _ _ (c .enum-told .given .1)))
+
+put-requires-2 : tie.Need-put-requires-2 Inv-loop μ-loop
+put-requires-2 c κs =
+    let s = c .before .before .before .before .before .before .before .before .before in
+    hop-low _ _ _ _ _ _ (c .before .before .before .step-over .ensures) _ (s .pre .0) (c .before .h .given .1)
+
+add-j : tie.Need-add-j Inv-loop μ-loop
+add-j c = search needs
+
+loop-less : tie.Need-loop-less Inv-loop μ-loop
+loop-less c = search needs
+
+loop-again : tie.Need-loop-again Inv-loop μ-loop
+loop-again c =
+    let s = c .before .before .before .before .before .before .before .before .before .before in
+    let l = c .before .before .before .before .before .before .before .loop in (
+      search needs,
+      hop-low _ _ _ _ _ _ (c .before .before .before .before .step-over .ensures) _ (s .pre .0) (c .before .before .h .given .1),
+      l .inv .2 ∙ rw (route-cons (now (s .args .route)) (l .j) (c .before .before .before .before .before .before .loop-test .taken), c .put2 .ensures)
+          (walk-on _ _ _ _ _ _ (c .before .before .before .before .step-over .ensures) _ _ _ (c .before .before .h .given .1)),
+    )
+
+returns-2 : tie.Need-returns-2 Inv-loop μ-loop
+returns-2 c = let l = c .before .loop in sym (l .inv .2 ∙ walk-end _ _ _ _ _ (l .j) _ (c .loop-test .left))
+
+pub walk-ok-spec : {M : Type 1} → statement M
+walk-ok-spec =
+    tie.close
+    (tie.spec
+    Inv-loop
+    μ-loop
+    put-requires
+    loop-holds
+    shared-slice-read-step-over
+    step-over-requires
+    enum-known-h
+    enum-told
+    returns
+    put-requires-2
+    add-j
+    loop-less
+    loop-again
+    returns-2)

@@ -1,0 +1,252 @@
+-- What the private functions of the crate tell each other. Nothing here has to be believed: the contract of `read` does not name it.
+use Prim.Native.Nat.{ℕ, zero, suc, _+_, _/_, _%_, _≤_, _<_}
+use mathlib.Core.Path.{_≡_}
+use mathlib.Core.List.{List, [], _∷_, _++_, map}
+use mathlib.Core.Bool.{Bool, true, false, cond, not, _&&_, _||_}
+use lib.ListN.{length, getD, take, drop}
+use lib.Dec.{eqb, ltb, leb}
+use Rattle.book.specs.Reader.{Got, got, bad, Reader, andThen, _>>=_, _>>_, give, need, begun, each, opened}
+use Rattle.book.specs.Book.{Span, Route, Ends, Lightpath, Alternative, RouteBook, mostForOne, mostMovable, some, every, spanFits, lightpathFits, spanAt, endsOf, endsAt, lightpathOf, count, kinds}
+use Rattle.book.specs.Format.{EN, nd, sp, route, lp, al, nothing}
+use Rattle.book.specs.Bits.{has, put, putIf, stationSet, spanWord}
+use Rattle.book.specs.Memory.{padded, bookOf, emptyBook}
+use Rattle.book.specs.declared.Book.{Book}
+use Rattle.book.specs.declared.Answer.the-variants.{Refused}
+use Rattle.book.specs.declared.Reply.{Reply}
+use Rattle.book.specs.declared.walk.Hop.{Hop}
+use Rattle.book.specs.declared.walk.Hop.the-variants.{To, Off}
+use Rattle.book.specs.declared.row.Words.{Words}
+use Rattle.book.specs.declared.record.Tally.{Tally}
+use Rattle.book.specs.declared.Step.{Step}
+use Rattle.book.specs.declared.Step.the-variants.{Next, Bad}
+
+-- a list by its elements
+abbrev pub tab : (ℕ → ℕ) → ℕ → List ℕ
+tab f zero = []
+tab f (suc n) = f 0 ∷ tab (λ i. f (suc i)) n
+
+-- the number r of the record at the head of d, as the reader q has it: 0 with the value a and the bytes after the first t; or a refusal
+pub record Numbered {A : Type 0} (r : ℕ) (q : Reader A) (d : List ℕ) (a : A) (t : ℕ) : Type 0 where
+  pub told : (here : List ℕ) → q here d ≡ cond (eqb r 0) (got a (drop t d)) (bad r here)
+  pub whole : r ≡ 0 → t ≤ length d
+
+-- the span in the record at the head of d
+abbrev pub spanIn : List ℕ → Span
+spanIn d = record { left = getD d 2 0; right = getD d 3 0; limit = getD d 4 0 }
+
+-- the ends of all spans stand in two arrays, and are nodes of a book
+pub record EndsLow (left right : List ℕ) : Type 0 where
+  pub left-long : length left ≡ 128
+  pub right-long : length right ≡ 128
+  pub left-low : (x : ℕ) → getD left x 0 < 64
+  pub right-low : (x : ℕ) → getD right x 0 < 64
+
+-- the walk over such arrays, with the nodes met as a set: where span x leads from p, and whether it may be taken
+abbrev pub farIn : List ℕ → List ℕ → ℕ → ℕ → ℕ
+farIn left right p x = cond (eqb (getD left x 0) p) (getD right x 0) (getD left x 0)
+
+abbrev pub goesIn : List ℕ → List ℕ → ℕ → ℕ → ℕ → Bool
+goesIn left right met p x = (eqb (getD left x 0) p || eqb (getD right x 0) p) && not (has met (farIn left right p x))
+
+unfoldable pub walksIn : List ℕ → List ℕ → ℕ → ℕ → List ℕ → ℕ → Bool
+walksIn left right met p [] t = eqb p t
+walksIn left right met p (x ∷ xs) t =
+    let q = farIn left right p x in
+    let r = walksIn left right (put met q) q xs t in goesIn left right met p x && r
+
+abbrev pub hopOf : List ℕ → List ℕ → ℕ → ℕ → ℕ → Hop
+hopOf left right met p x = cond (goesIn left right met p x) (To (farIn left right p x)) Off
+
+-- the spans of a book, in arrays
+pub record SpansIn (sps : List Span) (n : ℕ) (left right : List ℕ) : Type 0 where
+  pub counted : n ≡ length sps
+  pub is-left : (x : ℕ) → getD left x 0 ≡ spanAt sps x .left
+  pub is-right : (x : ℕ) → getD right x 0 ≡ spanAt sps x .right
+
+-- the number r of a route at the head of d
+pub record RouteNo (r : ℕ) (d : List ℕ) (len from to spans : ℕ) (left right : List ℕ) : Type 0 where
+  pub whole : r ≡ 0 → len ≤ length d
+  pub short : r ≡ 0 → len ≤ 16
+  pub told : (sps : List Span) → SpansIn sps spans left right → Numbered r (route sps (record { from = from; to = to }) len) d (record { spans = take len d }) len
+
+-- two different stations, by the set of stations among so many nodes
+abbrev pub endsFit : ℕ → ℕ → ℕ → ℕ → Bool
+endsFit nodes stations a b = ltb a nodes && (ltb b nodes && (has stations a && (has stations b && not (eqb a b))))
+
+-- the lightpath in the record at the head of d
+abbrev pub lightpathIn : List ℕ → Lightpath
+lightpathIn d = record { ends = record { from = getD d 2 0; to = getD d 3 0 }; route = record { spans = take (getD d 4 0) (drop 5 d) } }
+
+pub record LpNo (r : ℕ) (d : List ℕ) (nodes stations spans : ℕ) (left right : List ℕ) : Type 0 where
+  pub whole : r ≡ 0 → 5 + getD d 4 0 ≤ length d
+  pub short : r ≡ 0 → getD d 4 0 ≤ 16
+  pub told : (ns : List Bool) (sps : List Span) → nodes ≡ length ns → stations ≡ stationSet ns → SpansIn sps spans left right
+      → Numbered r (lp ns sps) d (lightpathIn d) (5 + getD d 4 0)
+
+-- the ends of all lightpaths stand in two arrays
+pub record OwnersLow (from to : List ℕ) : Type 0 where
+  pub from-long : length from ≡ 96
+  pub to-long : length to ≡ 96
+  pub from-low : (k : ℕ) → getD from k 0 < 64
+
+pub record EndsIn (es : List Ends) (n : ℕ) (from to : List ℕ) : Type 0 where
+  pub counted : n ≡ length es
+  pub is-from : (k : ℕ) → getD from k 0 ≡ endsAt es k .from
+  pub is-to : (k : ℕ) → getD to k 0 ≡ endsAt es k .to
+
+-- what a tally says of the lightpaths of the alternatives before, the last first: since these never fall, those of the last stand together
+abbrev pub heldFor : ℕ → ℕ → ℕ → ℕ
+heldFor last same k = cond (eqb k last) same 0
+
+pub record TallyOf (before : List ℕ) (last same many : ℕ) : Type 0 where
+  pub is-last : last ≡ getD before 0 0
+  pub is-same : (k : ℕ) → last ≤ k → count k before ≡ heldFor last same k
+  pub is-kinds : many ≡ kinds before
+
+abbrev pub followsIn : ℕ → ℕ → ℕ → ℕ → ℕ → Bool
+followsIn last same many lightpaths k = ltb k lightpaths && leb last k && not (eqb (heldFor last same k) 0 && eqb many mostMovable) && not (eqb (heldFor last same k) mostForOne)
+
+-- a tally with one alternative of lightpath k more
+abbrev pub tallyWith : ℕ → ℕ → ℕ → ℕ → Tally
+tallyWith last same many k = record { last = k; same = heldFor last same k + 1; kinds = many + cond (eqb (heldFor last same k) 0) 1 0 }
+
+-- the alternative in the record at the head of d
+abbrev pub alternativeIn : List ℕ → Alternative
+alternativeIn d = record { lightpath = getD d 2 0; route = record { spans = take (getD d 3 0) (drop 4 d) } }
+
+pub record AlNo (r : ℕ) (d : List ℕ) (lightpaths last same many spans : ℕ) (from to left right : List ℕ) : Type 0 where
+  pub whole : r ≡ 0 → 4 + getD d 3 0 ≤ length d
+  pub short : r ≡ 0 → getD d 3 0 ≤ 16
+  pub risen : r ≡ 0 → last ≤ getD d 2 0
+  pub told : (sps : List Span) (es : List Ends) (before : List Alternative) → SpansIn sps spans left right → EndsIn es lightpaths from to
+      → TallyOf (map lightpathOf before) last same many → Numbered r (al sps es before) d (alternativeIn d) (4 + getD d 3 0)
+
+-- the spans of a route as two words, and one span more in them
+abbrev pub wordsOf : List ℕ → Words
+wordsOf r = record { low = spanWord 0 r; high = spanWord 1 r }
+
+abbrev pub wordsInto : ℕ → ℕ → ℕ → Words
+wordsInto low high x = record { low = putIf (eqb (x / 64) 0) low (x % 64); high = putIf (eqb (x / 64) 1) high (x % 64) }
+
+-- a book of which some kinds of records are read
+abbrev pub partly : List Bool → List Span → List Lightpath → List Alternative → RouteBook
+partly ns sps lps als = record { nodes = ns; spans = sps; lightpaths = lps; alternatives = als }
+
+-- what a step says of the reading g of the book s: it came to `at` with a value that b holds, or it was refused at p
+pub record Reached {A : Type 0} (s : List ℕ) (g : Got A) (holds : A → Book → Type 0) (at : ℕ) (b : Book) : Type 0 where
+  pub value : A
+  pub is : g ≡ got value (drop at s)
+  pub within : at ≤ length s
+  pub held : holds value b
+
+pub record Halted {A : Type 0} (s : List ℕ) (g : Got A) (n p : ℕ) : Type 0 where
+  pub is : g ≡ bad n (drop p s)
+  pub within : p ≤ length s
+
+abbrev pub Told : {A : Type 0} → List ℕ → Got A → (A → Book → Type 0) → Step → Book → Type 0
+Told s g holds (Next at) b = Reached s g holds at b
+Told s g holds (Bad n p) b = Halted s g n p
+
+abbrev pub HoldsNodes : List Bool → Book → Type 0
+HoldsNodes ns b = b ≡ bookOf (partly ns [] [] [])
+
+abbrev pub HoldsSpans : List Bool → List Span → Book → Type 0
+HoldsSpans ns sps b = b ≡ bookOf (partly ns sps [] [])
+
+abbrev pub HoldsLightpaths : List Bool → List Span → List Lightpath → Book → Type 0
+HoldsLightpaths ns sps lps b = b ≡ bookOf (partly ns sps lps [])
+
+abbrev pub HoldsAll : List Bool → List Span → List Lightpath → List Alternative → Book → Type 0
+HoldsAll ns sps lps als b = b ≡ bookOf (partly ns sps lps als)
+
+-- what the code relies on in a book whose spans are read, and in one whose lightpaths are read too
+pub record SpansHeld (b : Book) : Type 0 where
+  pub nodes-few : b .nodes ≤ 64
+  pub spans-few : b .spans ≤ 128
+  pub ends-low : EndsLow (b .left) (b .right)
+
+pub record LightpathsHeld (b : Book) : Type 0 where
+  pub spans-few : b .spans ≤ 128
+  pub ends-low : EndsLow (b .left) (b .right)
+  pub lightpaths-few : b .lightpaths ≤ 96
+  pub owners-low : OwnersLow (b .from) (b .to)
+  pub route-long : length (b .route) ≡ 2432
+
+-- a book with other rows
+abbrev pub withRows : Book → List ℕ → List ℕ → List ℕ → List ℕ → Book
+withRows b len route low high = record {
+  nodes = b .nodes;
+  spans = b .spans;
+  lightpaths = b .lightpaths;
+  alternatives = b .alternatives;
+  stations = b .stations;
+  left = b .left;
+  right = b .right;
+  limit = b .limit;
+  from = b .from;
+  to = b .to;
+  owner = b .owner;
+  len = len;
+  route = route;
+  low = low;
+  high = high;
+}
+
+-- the reader of `book`, cut after each kind of record: what is still to be read
+abbrev pub fromEnd : RouteBook → Reader RouteBook
+fromEnd m = do
+  begun (opened EN 0)
+  begun nothing
+  give m
+
+abbrev pub fromAlternatives : ℕ → List Bool → List Span → List Lightpath → Reader RouteBook
+fromAlternatives a ns sps lps = do
+  als ← each (al sps (map endsOf lps)) a []
+  fromEnd (partly ns sps lps als)
+
+abbrev pub fromLightpaths : ℕ → ℕ → List Bool → List Span → Reader RouteBook
+fromLightpaths p a ns sps = do
+  lps ← each (λ before. lp ns sps) p []
+  fromAlternatives a ns sps lps
+
+abbrev pub fromSpans : ℕ → ℕ → ℕ → List Bool → Reader RouteBook
+fromSpans x p a ns = do
+  sps ← each (λ before. sp (length ns)) x []
+  fromLightpaths p a ns sps
+
+abbrev pub fromNodes : ℕ → ℕ → ℕ → ℕ → Reader RouteBook
+fromNodes n x p a = do
+  ns ← each (λ before. nd) n []
+  begun (need (some ns) 10)
+  fromSpans x p a ns
+
+abbrev pub HoldsBook : RouteBook → Book → Type 0
+HoldsBook m b = b ≡ bookOf m
+
+-- a book of which the nodes are read; the spans too; the lightpaths too
+pub record NodesRead (b : Book) : Type 0 where
+  pub ns : List Bool
+  pub is : b ≡ bookOf (partly ns [] [] [])
+  pub few : length ns ≤ 64
+
+pub record SpansRead (b : Book) : Type 0 where
+  pub ns : List Bool
+  pub sps : List Span
+  pub is : b ≡ bookOf (partly ns sps [] [])
+  pub nodes-few : length ns ≤ 64
+  pub spans-few : length sps ≤ 128
+  pub fit : every (λ before. spanFits (length ns)) [] sps ≡ true
+
+pub record LightpathsRead (b : Book) : Type 0 where
+  pub ns : List Bool
+  pub sps : List Span
+  pub lps : List Lightpath
+  pub is : b ≡ bookOf (partly ns sps lps [])
+  pub nodes-few : length ns ≤ 64
+  pub spans-few : length sps ≤ 128
+  pub lightpaths-few : length lps ≤ 96
+  pub spans-fit : every (λ before. spanFits (length ns)) [] sps ≡ true
+  pub fit : every (λ before. lightpathFits ns sps) [] lps ≡ true
+
+abbrev pub refusedReply : ℕ → ℕ → Reply
+refusedReply n p = record { answer = Refused n p; book = bookOf emptyBook }

@@ -1,0 +1,61 @@
+-- How a book is held in memory, and the reader's answer: docs/BOOK.md, section 7. Every array is its list and then noughts.
+use Prim.Native.Nat.{ℕ, zero, suc, _-_}
+use mathlib.Core.List.{List, [], _∷_, _++_, map}
+use mathlib.Core.Bool.{Bool}
+use lib.ListN.{length, replicate}
+use Rattle.book.specs.Book.{Span, Route, Lightpath, Alternative, RouteBook, lightpathOf}
+use Rattle.book.specs.Format.{Reading, good, refused}
+use Rattle.book.specs.Bits.{stationSet, spanWord}
+use Rattle.book.specs.declared.Book.{Book}
+use Rattle.book.specs.declared.Answer.{Answer}
+use Rattle.book.specs.declared.Answer.the-variants.{Good, Refused}
+use Rattle.book.specs.declared.Reply.{Reply}
+
+-- a list in n places; lists one after another, each in w places
+unfoldable pub padded : ℕ → List ℕ → List ℕ
+padded n xs = xs ++ replicate (n - length xs) 0
+
+unfoldable pub rows : ℕ → List (List ℕ) → List ℕ
+rows w [] = []
+rows w (r ∷ rs) = padded w r ++ rows w rs
+
+-- all routes in book order, as lists of span numbers: the lightpaths', then the alternatives'
+abbrev pub routesOf : List Lightpath → List Alternative → List (List ℕ)
+routesOf lps als = map (λ (p : Lightpath). p .route .spans) lps ++ map (λ (a : Alternative). a .route .spans) als
+
+-- B46: the struct that holds a book
+abbrev pub bookOf : RouteBook → Book
+bookOf m = record {
+  nodes = length (m .nodes);
+  spans = length (m .spans);
+  lightpaths = length (m .lightpaths);
+  alternatives = length (m .alternatives);
+  stations = stationSet (m .nodes);
+  left = padded 128 (map (λ (x : Span). x .left) (m .spans));
+  right = padded 128 (map (λ (x : Span). x .right) (m .spans));
+  limit = padded 128 (map (λ (x : Span). x .limit) (m .spans));
+  from = padded 96 (map (λ (p : Lightpath). p .ends .from) (m .lightpaths));
+  to = padded 96 (map (λ (p : Lightpath). p .ends .to) (m .lightpaths));
+  owner = padded 56 (map lightpathOf (m .alternatives));
+  len = padded 152 (map (λ (r : List ℕ). length r) (routesOf (m .lightpaths) (m .alternatives)));
+  route = padded 2432 (rows 16 (routesOf (m .lightpaths) (m .alternatives)));
+  low = padded 152 (map (spanWord 0) (routesOf (m .lightpaths) (m .alternatives)));
+  high = padded 152 (map (spanWord 1) (routesOf (m .lightpaths) (m .alternatives)));
+}
+
+abbrev pub emptyBook : RouteBook
+emptyBook = record { nodes = []; spans = []; lightpaths = []; alternatives = [] }
+
+-- B49: the answer's number and place for each of its cases: 0 and 0 where the book is good
+abbrev pub numberOf : Answer → ℕ
+numberOf Good = 0
+numberOf (Refused n p) = n
+
+abbrev pub placeOf : Answer → ℕ
+placeOf Good = 0
+placeOf (Refused n p) = p
+
+-- B49: what the reader answers, with the book; a refusal has nought everywhere else
+abbrev pub shown : Reading → Reply
+shown (good m) = record { answer = Good; book = bookOf m }
+shown (refused n p) = record { answer = Refused n p; book = bookOf emptyBook }

@@ -1,0 +1,274 @@
+// The records of a book, one at a time: each function is given the bytes from the record's first on, and answers with the number of the
+// record's first fault, or 0.
+use crate::set;
+use crate::walk;
+ghost use mathlib.Core.Path.{_≡_};
+ghost use mathlib.Core.Bool.{true, cond};
+ghost use Prim.Native.Nat.{ℕ, _+_, _≤_, _<_};
+ghost use lib.ListN.{length, getD, take, drop};
+ghost use lib.Dec.{eqb};
+ghost use mathlib.Core.List.{[]};
+ghost use Rattle.book.specs.Reader.{opened};
+ghost use Rattle.book.specs.Book.{countsFit, spanEnds};
+ghost use Rattle.book.specs.Format.{EN, hd, nd, sp};
+ghost use Rattle.book.specs.Inside.{tab, Numbered, spanIn, EndsLow, RouteNo, endsFit, LpNo, OwnersLow, heldFor, followsIn, tallyWith, AlNo};
+
+// The mark of two bytes that is due, then k fixed fields.
+pub(crate) fn opened_no(d: &[u8], one: u8, two: u8, k: usize) -> u8
+    requires { ⌜ k < 16 ⌝ }
+    ensures { λ r. ⌜ Numbered r (opened (record { one = one; two = two }) k) (now (d .entry)) (tab (λ i. getD (now (d .entry)) (2 + i) 0) k) (2 + k) ⌝ }
+{
+    if d.len() < 2 {
+        return 1;
+    }
+    if d[0] != one {
+        return 2;
+    }
+    if d[1] != two {
+        return 2;
+    }
+    if d.len() < 2 + k {
+        return 1;
+    }
+    0
+}
+
+fn counts_fit(nodes: u8, spans: u8, lightpaths: u8, alternatives: u8) -> bool
+    ensures { λ r. ⌜ r ≡ countsFit nodes spans lightpaths alternatives ⌝ }
+{
+    if nodes < 1 {
+        return false;
+    }
+    if 64 < nodes {
+        return false;
+    }
+    if 128 < spans {
+        return false;
+    }
+    if 96 < lightpaths {
+        return false;
+    }
+    alternatives <= 56
+}
+
+pub(crate) fn hd_no(d: &[u8]) -> u8
+    ensures { λ r. ⌜ Numbered r hd (now (d .entry)) (tab (λ i. getD (now (d .entry)) (2 + i) 0) 4) 6 ⌝ }
+{
+    let no = opened_no(d, 0x48, 0x44, 4);
+    if no != 0 {
+        return no;
+    }
+    if counts_fit(d[2], d[3], d[4], d[5]) {
+        0
+    } else {
+        3
+    }
+}
+
+pub(crate) fn nd_no(d: &[u8]) -> u8
+    ensures { λ r. ⌜ Numbered r nd (now (d .entry)) (eqb (getD (now (d .entry)) 2 0) 1) 3 ⌝ }
+{
+    let no = opened_no(d, 0x4e, 0x44, 1);
+    if no != 0 {
+        return no;
+    }
+    let flag = d[2];
+    if flag <= 1 { 0 } else { 4 }
+}
+
+fn span_ends(nodes: u8, a: u8, b: u8) -> bool
+    ensures { λ r. ⌜ r ≡ spanEnds nodes a b ⌝ }
+{
+    if nodes <= a {
+        return false;
+    }
+    if nodes <= b {
+        return false;
+    }
+    a != b
+}
+
+pub(crate) fn sp_no(d: &[u8], nodes: u8) -> u8
+    ensures { λ r. ⌜ Numbered r (sp nodes) (now (d .entry)) (spanIn (now (d .entry))) 5 ⌝ }
+{
+    let no = opened_no(d, 0x53, 0x50, 3);
+    if no != 0 {
+        return no;
+    }
+    if span_ends(nodes, d[2], d[3]) { 0 } else { 4 }
+}
+
+// The spans of a route of `len` spans between two nodes, at the head of d: length, span numbers, walk.
+fn route_no<'a>(
+    d: &[u8],
+    len: u8,
+    from: u8,
+    to: u8,
+    spans: u8,
+    left: &'a [u8; 128],
+    right: &'a [u8; 128],
+) -> u8
+    requires { ⌜ EndsLow (now left) (now right) × (spans ≤ 128) × (from < 64) ⌝ }
+    ensures { λ r. ⌜ RouteNo r (now (d .entry)) len from to spans (now (left .entry)) (now (right .entry)) ⌝ }
+{
+    if len < 1 {
+        return 6;
+    }
+    if 16 < len {
+        return 6;
+    }
+    let n = len as usize;
+    if d.len() < n {
+        return 1;
+    }
+    let route = &d[..n];
+    if !walk::all_below(route, spans) {
+        return 5;
+    }
+    if walk::walk_ok(route, from, to, left, right) {
+        0
+    } else {
+        7
+    }
+}
+
+// Whether two nodes are different stations.
+fn ends_fit(nodes: u8, stations: u64, a: u8, b: u8) -> bool
+    requires { ⌜ nodes ≤ 64 ⌝ }
+    ensures { λ r. ⌜ r ≡ endsFit nodes stations a b ⌝ }
+{
+    if nodes <= a {
+        return false;
+    }
+    if nodes <= b {
+        return false;
+    }
+    if !set::has(stations, a) {
+        return false;
+    }
+    if !set::has(stations, b) {
+        return false;
+    }
+    a != b
+}
+
+pub(crate) fn lp_no<'a>(
+    d: &[u8],
+    nodes: u8,
+    stations: u64,
+    spans: u8,
+    left: &'a [u8; 128],
+    right: &'a [u8; 128],
+) -> u8
+    requires { ⌜ EndsLow (now left) (now right) × (spans ≤ 128) × (nodes ≤ 64) ⌝ }
+    ensures { λ r. ⌜ LpNo r (now (d .entry)) nodes stations spans (now (left .entry)) (now (right .entry)) ⌝ }
+{
+    let no = opened_no(d, 0x4c, 0x50, 3);
+    if no != 0 {
+        return no;
+    }
+    let from = d[2];
+    let to = d[3];
+    let len = d[4];
+    if !ends_fit(nodes, stations, from, to) {
+        return 4;
+    }
+    route_no(&d[5..], len, from, to, spans, left, right)
+}
+
+fn one_if(t: bool) -> u8
+    ensures { λ r. ⌜ (r ≡ cond t 1 0) × (r ≤ 1) ⌝ }
+{
+    if t { 1 } else { 0 }
+}
+
+// Of the alternatives so far: the last one's lightpath, how many are that lightpath's, and of how many lightpaths they are.
+pub(crate) struct Tally {
+    pub last: u8,
+    pub same: u8,
+    pub kinds: u8,
+}
+
+impl Tally {
+    pub(crate) fn none() -> Tally
+        ensures { λ r. ⌜ r ≡ record { last = 0; same = 0; kinds = 0 } ⌝ }
+    {
+        Tally {
+            last: 0,
+            same: 0,
+            kinds: 0,
+        }
+    }
+
+    // How many of the alternatives so far are lightpath k's, where k is not below the last.
+    fn held_for(self, k: u8) -> u8
+        ensures { λ r. ⌜ r ≡ heldFor (self .last) (self .same) k ⌝ }
+    {
+        if k == self.last { self.same } else { 0 }
+    }
+
+    // Whether an alternative of lightpath k may stand next.
+    fn follows(self, lightpaths: u8, k: u8) -> bool
+        ensures { λ r. ⌜ r ≡ followsIn (self .last) (self .same) (self .kinds) lightpaths k ⌝ }
+    {
+        if lightpaths <= k {
+            return false;
+        }
+        if k < self.last {
+            return false;
+        }
+        let held = self.held_for(k);
+        if held == 0 {
+            return self.kinds != 8;
+        }
+        held != 7
+    }
+
+    // With one alternative more, of lightpath k.
+    pub(crate) fn with(self, k: u8) -> Tally
+        requires { ⌜ (self .same < 255) × (self .kinds < 255) ⌝ }
+        ensures { λ r. ⌜ r ≡ tallyWith (self .last) (self .same) (self .kinds) k ⌝ }
+    {
+        let held = self.held_for(k);
+        let fresh = one_if(held == 0);
+        Tally {
+            last: k,
+            same: held + 1,
+            kinds: self.kinds + fresh,
+        }
+    }
+}
+
+pub(crate) fn al_no<'a>(
+    d: &[u8],
+    lightpaths: u8,
+    tally: Tally,
+    spans: u8,
+    from: &'a [u8; 96],
+    to: &'a [u8; 96],
+    left: &'a [u8; 128],
+    right: &'a [u8; 128],
+) -> u8
+    requires { ⌜ EndsLow (now left) (now right) × (spans ≤ 128) × OwnersLow (now from) (now to) × (lightpaths ≤ 96) ⌝ }
+    ensures { λ r. ⌜ AlNo r (now (d .entry)) lightpaths (tally .last) (tally .same) (tally .kinds) spans (now (from .entry)) (now (to .entry)) (now (left .entry)) (now (right .entry)) ⌝ }
+{
+    let no = opened_no(d, 0x41, 0x4c, 2);
+    if no != 0 {
+        return no;
+    }
+    let k = d[2];
+    let len = d[3];
+    if !tally.follows(lightpaths, k) {
+        return 8;
+    }
+    let i = k as usize;
+    let a = from[i];
+    let b = to[i];
+    route_no(&d[4..], len, a, b, spans, left, right)
+}
+
+pub(crate) fn en_no(d: &[u8]) -> u8
+    ensures { λ r. ⌜ Numbered r (opened EN 0) (now (d .entry)) [] 2 ⌝ }
+{
+    opened_no(d, 0x45, 0x4e, 0)
+}
