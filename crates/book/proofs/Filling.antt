@@ -15,7 +15,7 @@ use Rattle.book.specs.Book.{Span}
 use Rattle.book.specs.Format.{nd, sp}
 use Rattle.book.specs.Bits.{putIf, stationsInto, stationSet}
 use Rattle.book.specs.Memory.{padded, bookOf, emptyBook}
-use Rattle.book.specs.Inside.{Numbered, spanIn, partly, Reached, Halted, HoldsNodes, HoldsSpans}
+use Rattle.book.specs.Inside.{remade, Numbered, spanIn, partly, Reached, Halted, HoldsNodes, HoldsSpans}
 use Rattle.book.proofs.Padded.{padded-none}
 use Rattle.book.proofs.Stations.{stations-more}
 use Rattle.book.proofs.Turns.{Turned, turned-start, turned-next, turned-stop, turned-done, column-more}
@@ -49,23 +49,7 @@ module _ (s : List ℕ) (start m : ℕ) where
     nodes-stop h = record { is = turned-stop (λ x. nd) s start m (now .turned) l n h; within = now .turned .within }
 
   pub nodes-done : {k at stations : ℕ} → NodesTurned k at stations → m ≤ k → {b : Book} → b ≡ bookOf emptyBook
-      → Reached s (each (λ x. nd) m [] s (drop start s)) HoldsNodes at (record {
-        nodes = m;
-        spans = b .spans;
-        lightpaths = b .lightpaths;
-        alternatives = b .alternatives;
-        stations = stations;
-        left = b .left;
-        right = b .right;
-        limit = b .limit;
-        from = b .from;
-        to = b .to;
-        owner = b .owner;
-        len = b .len;
-        route = b .route;
-        low = b .low;
-        high = b .high;
-      })
+      → Reached s (each (λ x. nd) m [] s (drop start s)) HoldsNodes at (remade m (b .spans) (b .lightpaths) (b .alternatives) stations (b .left) (b .right) (b .limit) (b .from) (b .to) (b .owner) (b .len) (b .route) (b .low) (b .high))
   nodes-done {k} {at} now h e =
       let c : m ≡ length (reverse (now .before)) = omega (arith, now .turned .counted, now .turned .few, length-reverse (now .before)) in
       record {
@@ -111,23 +95,7 @@ module _ (nodes : ℕ) (s : List ℕ) (start m : ℕ) where
 
 pub spans-done : (s : List ℕ) (start m : ℕ) (b : Book) (ns : List Bool) → b ≡ bookOf (partly ns [] [] []) → {k at : ℕ} {left right limit : List ℕ}
     → SpansTurned (b .nodes) s start m k at left right limit → m ≤ k
-    → Reached s (each (λ x. sp (length ns)) m [] s (drop start s)) (HoldsSpans ns) at (record {
-      nodes = b .nodes;
-      spans = m;
-      lightpaths = b .lightpaths;
-      alternatives = b .alternatives;
-      stations = b .stations;
-      left = left;
-      right = right;
-      limit = limit;
-      from = b .from;
-      to = b .to;
-      owner = b .owner;
-      len = b .len;
-      route = b .route;
-      low = b .low;
-      high = b .high;
-    })
+    → Reached s (each (λ x. sp (length ns)) m [] s (drop start s)) (HoldsSpans ns) at (remade (b .nodes) m (b .lightpaths) (b .alternatives) (b .stations) left right limit (b .from) (b .to) (b .owner) (b .len) (b .route) (b .low) (b .high))
 spans-done s start m b ns e now h =
     let c : m ≡ length (reverse (now .before)) = omega (arith, now .turned .counted, now .turned .few, length-reverse (now .before)) in
     record {

@@ -10,6 +10,7 @@ use Rattle.book.specs.Reader.{Got, got, bad, Reader, andThen, need, begu
 use Rattle.book.specs.Book.{Span, Ends, Lightpath, Alternative, RouteBook, some, every, endsOf, countsFit, spanFits, lightpathFits, alternativeFits, wellFormed}
 use Rattle.book.specs.Format.{EN, bytesOf, hdBytes, ndBytes, spBytes, lpBytes, alBytes, enBytes, encode, field, hd, nd, sp, lp, al, atEnd, book, Reading, good, refused, placed, reading}
 use Rattle.book.proofs.Tests.{and-inv, and-both}
+use Rattle.book.proofs.Parts.{parts, whole}
 use Rattle.book.proofs.Readers.{Bytes, bytes-after, apart, then-got, need-got, carried, joined, opened-back, opened-only, each-back, each-then}
 use Rattle.book.proofs.Records.{hd-back, hd-only, nd-right, sp-right, lp-right, al-right}
 
@@ -19,27 +20,24 @@ every-true before [] = refl
 every-true before (a ∷ l) = every-true (a ∷ before) l
 
 pub book-back : (m : RouteBook) (here : List ℕ) → wellFormed m ≡ true → book here (encode m) ≡ got m []
-unfolding wellFormed book encode
+unfolding book encode
 book-back m here h =
     let ns = m .nodes in
     let sps = m .spans in
     let lps = m .lightpaths in
     let als = m .alternatives in
-    let h0 = and-inv {a = countsFit (length ns) (length sps) (length lps) (length als)} h in
-    let h1 = and-inv {a = some ns} (h0 .1) in
-    let h2 = and-inv {a = every (λ before. spanFits (length ns)) [] sps} (h1 .1) in
-    let h3 = and-inv {a = every (λ before. lightpathFits ns sps) [] lps} (h2 .1) in
+    let p = parts m h in
     let t3 = bytesOf alBytes als ++ enBytes in
     let t2 = bytesOf lpBytes lps ++ t3 in
     let t1 = bytesOf spBytes sps ++ t2 in
     let t0 = bytesOf ndBytes ns ++ t1 in
     rw (
-      hd-back (length ns) (length sps) (length lps) (length als) (encode m) t0 (h0 .0),
+      hd-back (length ns) (length sps) (length lps) (length als) (encode m) t0 (p .counts),
       each-back (λ before. nd-right) ns [] here t1 (every-true [] ns),
-      h1 .0,
-      each-back (λ before. sp-right (length ns)) sps [] here t2 (h2 .0),
-      each-back (λ before. lp-right ns sps) lps [] here t3 (h3 .0),
-      each-back (λ before. al-right sps (map endsOf lps) before) als [] here enBytes (h3 .1),
+      p .station,
+      each-back (λ before. sp-right (length ns)) sps [] here t2 (p .spans),
+      each-back (λ before. lp-right ns sps) lps [] here t3 (p .lightpaths),
+      each-back (λ before. al-right sps (map endsOf lps) before) als [] here enBytes (p .alternatives),
       opened-back EN 0 [] enBytes [] refl,
     ) refl
 
@@ -64,7 +62,7 @@ en-only x b s v e =
     (opened-only EN 0 s s (z .2) .0 ∙ ap (λ (l : List ℕ). enBytes ++ l) (empty (z .1) (y .0)), carried (λ a u. x ≡ a) (y .1) refl)
 
 pub book-only : (here s : List ℕ) {m : RouteBook} {t : List ℕ} → Bytes s → book here s ≡ got m t → (encode m ≡ s) × (wellFormed m ≡ true)
-unfolding wellFormed book encode
+unfolding book encode
 book-only here s {m} {t} h e =
     hd-then s _ h e λ c r0 p0 q0 b0 e0.
     each-then (λ before. nd-right) (field c 0) here r0 _ b0 e0 λ ns r1 p1 l1 w1 b1 e1.
@@ -79,7 +77,13 @@ book-only here s {m} {t} h e =
     in
     subst (λ (x : RouteBook). (encode x ≡ s) × (wellFormed x ≡ true)) (en .1) (
       sym (p0 ∙ λ i. hdBytes (l1 i) (l2 i) (l3 i) (l4 i) ++ q i),
-      and-both (subst (λ (x : Bool). x ≡ true) (λ i. countsFit (l1 i) (l2 i) (l3 i) (l4 i)) q0) (and-both (st .0) (and-both w2 (and-both w3 w4))),
+      whole (record { nodes = ns; spans = sps; lightpaths = lps; alternatives = als }) (record {
+        counts = subst (λ (x : Bool). x ≡ true) (λ i. countsFit (l1 i) (l2 i) (l3 i) (l4 i)) q0;
+        station = st .0;
+        spans = w2;
+        lightpaths = w3;
+        alternatives = w4;
+      }),
     )
 
 -- (a) what is written reads back

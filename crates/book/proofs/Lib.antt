@@ -1,5 +1,6 @@
 -- The laws of crate book; docs/PROMISES.md lists the theorems among them.
 pub mod Tests
+pub mod Parts
 pub mod Readers
 pub mod Records
 pub mod Format

@@ -14,7 +14,7 @@ use Rattle.book.specs.Book.{Span, Ends, Lightpath, Alternative, every, l
 use Rattle.book.specs.Format.{lp, al}
 use Rattle.book.specs.Bits.{spanWord, stationSet}
 use Rattle.book.specs.Memory.{padded, rows, routesOf, bookOf}
-use Rattle.book.specs.Inside.{Numbered, SpansIn, EndsIn, LpNo, lightpathIn, TallyOf, AlNo, alternativeIn, heldFor, partly, Reached, Halted, HoldsLightpaths, HoldsAll}
+use Rattle.book.specs.Inside.{remade, Numbered, SpansIn, EndsIn, LpNo, lightpathIn, TallyOf, AlNo, alternativeIn, heldFor, partly, Reached, Halted, HoldsLightpaths, HoldsAll}
 use Rattle.book.proofs.Tests.{and-inv}
 use Rattle.book.proofs.Stands.{length-most}
 use Rattle.book.proofs.Tallies.{tally-none, held-most, one-most, tally-more}
@@ -127,23 +127,7 @@ module _ (b : Book) (s : List ℕ) (start m : ℕ) where
           }
 
   pub lightpaths-done : {k at : ℕ} {from to len route low high : List ℕ} → LightpathsTurned k at from to len route low high → m ≤ k
-      → (ns : List Bool) (sps : List Span) → b ≡ bookOf (partly ns sps [] []) → Reached s (each (λ x. lp ns sps) m [] s (drop start s)) (HoldsLightpaths ns sps) at (record {
-        nodes = b .nodes;
-        spans = b .spans;
-        lightpaths = m;
-        alternatives = b .alternatives;
-        stations = b .stations;
-        left = b .left;
-        right = b .right;
-        limit = b .limit;
-        from = from;
-        to = to;
-        owner = b .owner;
-        len = len;
-        route = route;
-        low = low;
-        high = high;
-      })
+      → (ns : List Bool) (sps : List Span) → b ≡ bookOf (partly ns sps [] []) → Reached s (each (λ x. lp ns sps) m [] s (drop start s)) (HoldsLightpaths ns sps) at (remade (b .nodes) (b .spans) m (b .alternatives) (b .stations) (b .left) (b .right) (b .limit) from to (b .owner) len route low high)
   lightpaths-done {k} {at} {from} {to} {len} {route} {low} {high} now h ns sps e =
       let c : m ≡ length (reverse (now .before)) = omega (arith, now .counted, now .few, length-reverse (now .before)) in
       let x : RowsIn (routesOf (reverse (now .before)) []) len route low high = subst (λ (l : List (List ℕ)). RowsIn l len route low high) (sym (append-nil (map routeOf (reverse (now .before))))) (now .in-rows) in
@@ -249,23 +233,7 @@ module _ (b : Book) (s : List ℕ) (start m : ℕ) where
 
   pub alternatives-done : {k at last same many : ℕ} {owner len route low high : List ℕ} → AlternativesTurned k at last same many owner len route low high → m ≤ k
       → (ns : List Bool) (sps : List Span) (lps : List Lightpath) → b ≡ bookOf (partly ns sps lps []) → every (λ x. lightpathFits ns sps) [] lps ≡ true
-      → Reached s (each (al sps (map endsOf lps)) m [] s (drop start s)) (HoldsAll ns sps lps) at (record {
-        nodes = b .nodes;
-        spans = b .spans;
-        lightpaths = b .lightpaths;
-        alternatives = m;
-        stations = b .stations;
-        left = b .left;
-        right = b .right;
-        limit = b .limit;
-        from = b .from;
-        to = b .to;
-        owner = owner;
-        len = len;
-        route = route;
-        low = low;
-        high = high;
-      })
+      → Reached s (each (al sps (map endsOf lps)) m [] s (drop start s)) (HoldsAll ns sps lps) at (remade (b .nodes) (b .spans) (b .lightpaths) m (b .stations) (b .left) (b .right) (b .limit) (b .from) (b .to) owner len route low high)
   alternatives-done {k} {at} now h ns sps lps e f =
       let c : m ≡ length (reverse (now .before)) = omega (arith, now .counted, now .few, length-reverse (now .before)) in
       let x = now .in-rows ns sps lps e f in

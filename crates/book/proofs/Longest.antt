@@ -15,6 +15,7 @@ use Rattle.book.specs.Book.{Span, Ends, RouteBook, some, below, every, e
 use Rattle.book.specs.Format.{bytesOf, ndBytes, spBytes, lpBytes, alBytes, encode, Reading, good, refused, reading}
 use Rattle.book.specs.Refusal.{Due, Stands, at-head, after-head, after-node, after-nodes, after-span, after-spans, after-lightpath, after-lightpaths, after-alternative, after-alternatives, after-ending, Opens, opens-HD, opens-ND, opens-SP, opens-LP, opens-AL, opens-EN, RouteDue, in-LP, in-AL, Row, row1-mark, row1-fields, row1-route, row2, row3, row4-node, row4-span, row4-lightpath, row5, row6, row7, row8, row9, row10}
 use Rattle.book.proofs.Tests.{and-inv, and-both}
+use Rattle.book.proofs.Parts.{parts}
 use Rattle.book.proofs.Readers.{Bytes}
 use Rattle.book.proofs.Format.{every-true, reading-only}
 use Rattle.book.proofs.Stands.{counted, length-most, lp-width, al-width, spent}
@@ -31,23 +32,20 @@ module _ {A : Type 0} {ok : List A → A → Bool} (enc : A → List ℕ) (w : �
 
 -- (d) the longest encoding
 pub longest : (m : RouteBook) → wellFormed m ≡ true → length (encode m) ≤ 3976
-unfolding wellFormed encode
+unfolding encode
 longest m h =
     let ns = m .nodes in
     let sps = m .spans in
     let lps = m .lightpaths in
     let als = m .alternatives in
-    let h0 = and-inv {a = countsFit (length ns) (length sps) (length lps) (length als)} h in
-    let h1 = and-inv {a = some ns} (h0 .1) in
-    let h2 = and-inv {a = every (λ before. spanFits (length ns)) [] sps} (h1 .1) in
-    let h3 = and-inv {a = every (λ before. lightpathFits ns sps) [] lps} (h2 .1) in
+    let p = parts m h in
     simp length-append (omega (
       arith,
-      counted (length ns) (length sps) (length lps) (length als) (h0 .0),
+      counted (length ns) (length sps) (length lps) (length als) (p .counts),
       widths ndBytes 3 (λ before n q. omega arith) [] ns (every-true [] ns),
-      widths spBytes 5 (λ before x q. omega arith) [] sps (h2 .0),
-      widths lpBytes 21 (λ before. lp-width ns sps) [] lps (h3 .0),
-      widths alBytes 20 (al-width sps (map endsOf lps)) [] als (h3 .1),
+      widths spBytes 5 (λ before x q. omega arith) [] sps (p .spans),
+      widths lpBytes 21 (λ before. lp-width ns sps) [] lps (p .lightpaths),
+      widths alBytes 20 (al-width sps (map endsOf lps)) [] als (p .alternatives),
     ))
 
 pub good-short : (b : List ℕ) (m : RouteBook) → Bytes b → reading b ≡ good m → length b ≤ 3976

@@ -45,37 +45,36 @@ padded-at n xs k = go (decLt k (length xs))
         ap (λ (i : ℕ). getD (xs ++ replicate (n - length xs) 0) i 0) e ∙ getD-append-add xs _ (k - length xs) 0
         ∙ rest (k - length xs) (decLt (k - length xs) (n - length xs)) ∙ sym (List·getD-eq-default xs 0 {n = k} (omega arith))
 
--- the list again
-pub padded-take : (n k : ℕ) (xs : List ℕ) → length xs ≡ k → take k (padded n xs) ≡ xs
-unfolding padded
-padded-take n k xs e = ap (λ (i : ℕ). take i (xs ++ replicate (n - length xs) 0)) (sym e) ∙ take-append-seam xs _
-
 -- noughts at the end change nothing
 pub padded-noughts : (n k : ℕ) (xs : List ℕ) → length xs + k ≤ n → padded n (xs ++ replicate k 0) ≡ padded n xs
 unfolding padded
 padded-noughts n k xs h =
     let e : n - length (xs ++ replicate k 0) ≡ n - length xs - k = omega (arith, length-append xs (replicate k 0), length-replicate {A = ℕ} k 0) in
     let f : k + (n - length xs - k) ≡ n - length xs = omega arith in
-    append-assoc xs (replicate k 0) _ ∙ ap (λ (i : ℕ). xs ++ (replicate k 0 ++ replicate i 0)) e
-    ∙ ap (λ (l : List ℕ). xs ++ l) (replicate-append-replicate k (n - length xs - k) 0) ∙ ap (λ (i : ℕ). xs ++ replicate i 0) f
+    let g : _≡_ {A = List ℕ} (replicate k 0 ++ replicate (n - length xs - k) 0) (replicate (k + (n - length xs - k)) 0) = replicate-append-replicate k (n - length xs - k) 0 in
+    rw (e, append-assoc xs (replicate k 0) (replicate (n - length xs - k) 0), g, f)
 
 pub rows-snoc : (w : ℕ) (rs : List (List ℕ)) (r : List ℕ) → rows w (rs ++ r ∷ []) ≡ rows w rs ++ padded w r
 unfolding rows
 rows-snoc w [] r = append-nil (padded w r)
 rows-snoc w (q ∷ rs) r = ap (λ (l : List ℕ). padded w q ++ l) (rows-snoc w rs r) ∙ sym (append-assoc (padded w q) (rows w rs) (padded w r))
 
+-- noughts after n of them
+noughts-after : (m n : ℕ) → n ≤ m → drop n (replicate m 0) ≡ replicate {A = ℕ} (m - n) 0
+noughts-after m n h =
+    let e : m ≡ n + (m - n) = omega arith in
+    ap (λ (i : ℕ). drop n (replicate i 0)) e ∙ ap (drop n) (sym (replicate-append-replicate n (m - n) 0)) ∙ drop-at (replicate n 0) (replicate (m - n) 0) n (length-replicate {A = ℕ} n 0)
+
 -- a list is copied in after the list that is there
-pub padded-paste : (m k n : ℕ) (xs s : List ℕ) → length xs ≡ k → n ≤ length s → k + n ≤ m → paste (padded m xs) k s n ≡ padded m (xs ++ take n s)
+padded-paste : (m k n : ℕ) (xs s : List ℕ) → length xs ≡ k → n ≤ length s → k + n ≤ m → paste (padded m xs) k s n ≡ padded m (xs ++ take n s)
 unfolding padded
 padded-paste m k n xs s e f h =
-    let z : m - length xs ≡ n + (m - length xs - n) = omega arith in
     let y : m - length (xs ++ take n s) ≡ m - length xs - n = omega (arith, length-append xs (take n s), length-take-le n s f) in
-    let q : drop (k + n) (xs ++ replicate (m - length xs) 0) ≡ replicate (m - length xs - n) 0
-    = ap (λ (i : ℕ). drop (i + n) (xs ++ replicate (m - length xs) 0)) (sym e) ∙ drop-append-add xs _ n ∙ ap (λ (i : ℕ). drop n (replicate i 0)) z
-    ∙ ap (drop n) (sym (replicate-append-replicate n (m - length xs - n) 0)) ∙ drop-at (replicate n 0) _ n (length-replicate {A = ℕ} n 0) in
-    ap (λ (l : List ℕ). take k (xs ++ replicate (m - length xs) 0) ++ take n s ++ l) q
-    ∙ ap (λ (l : List ℕ). l ++ take n s ++ replicate (m - length xs - n) 0) (take-at xs _ k e)
-    ∙ ap (λ (i : ℕ). (xs ++ take n s) ++ replicate i 0) (sym y)
+    let z : drop (k + n) (xs ++ replicate (m - length xs) 0) ≡ replicate (m - length xs - n) 0 = after in
+    rw (z, take-at xs (replicate (m - length xs) 0) k e, y)
+  where
+    after : drop (k + n) (xs ++ replicate (m - length xs) 0) ≡ replicate (m - length xs - n) 0
+    after = ap (λ (i : ℕ). drop (i + n) (xs ++ replicate (m - length xs) 0)) (sym e) ∙ drop-append-add xs (replicate (m - length xs) 0) n ∙ noughts-after (m - length xs) n (omega arith)
 
 padded-is : (w n : ℕ) (r : List ℕ) → length r ≡ n → r ++ replicate (w - n) 0 ≡ padded w r
 unfolding padded

@@ -1,16 +1,17 @@
 -- What the reader's promise leaves open: nothing. Every string of bytes is one good book or has one fault, never both, and the reply is told by that.
 -- The reply is an equation, so two replies that meet it are equal; the law of the format and the rows of the table say what it means.
-use Prim.Native.Nat.{ℕ}
+use Prim.Native.Nat.{ℕ, _≤_}
 use mathlib.Core.Path.{_≡_, refl, sym, ap, _∙_}
 use mathlib.Core.List.{List}
+use lib.ListN.{length}
 use mathlib.Core.Logic.{_⊎_, inl, inr}
 use mathlib.Core.Bool.{true}
 use native.Mathlib.Omega.{arith}
 use Rattle.book.specs.declared.Reply.{Reply}
 use Rattle.book.specs.Book.{RouteBook, wellFormed}
 use Rattle.book.specs.Format.{encode, Reading, good, refused, reading}
-use Rattle.book.specs.Refusal.{Fault}
-use Rattle.book.specs.Memory.{shown}
+use Rattle.book.specs.Refusal.{Due, Row, row1-mark, row1-fields, row1-route, row2, row3, row4-node, row4-span, row4-lightpath, row5, row6, row7, row8, row9, row10, Fault}
+use Rattle.book.specs.Memory.{numberOf, placeOf, shown}
 use Rattle.book.proofs.Readers.{Bytes}
 use Rattle.book.proofs.Format.{reading-back, reading-only}
 use Rattle.book.proofs.Refusals.{refused-fault}
@@ -40,3 +41,41 @@ good-or-faulty b h = go (reading b) refl
     go : (r : Reading) → reading b ≡ r → GoodBook b ⊎ Faulty b
     go (good m) e = let z = reading-only b m h e in inl (record { book = m; fits = z .1; written = z .0 })
     go (refused n p) e = inr (record { number = n; place = p; fault = refused-fault b n p h e })
+
+-- the numbers of refusal, and where a place can be
+row-number : {d : Due} {s : List ℕ} {n : ℕ} → Row d s n → (1 ≤ n) × (n ≤ 10)
+row-number (row1-mark o l) = omega arith
+row-number (row1-fields o l m k) = omega arith
+row-number (row1-route r f l) = omega arith
+row-number (row2 o l m) = omega arith
+row-number (row3 e f) = omega arith
+row-number (row4-node e l) = omega arith
+row-number (row4-span e f) = omega arith
+row-number (row4-lightpath e f) = omega arith
+row-number (row5 r v d f b) = omega arith
+row-number (row6 r f) = omega arith
+row-number (row7 r v d f b w) = omega arith
+row-number (row8 e f) = omega arith
+row-number row9 = omega arith
+row-number (row10 e) = omega arith
+
+pub refused-within : (b : List ℕ) (n p : ℕ) → Bytes b → reading b ≡ refused n p → (1 ≤ n) × (n ≤ 10) × (p ≤ length b)
+refused-within b n p h e =
+    let f = refused-fault b n p h e in
+    let r = row-number (f .row) in
+    (r .0, r .1, omega (arith, f .place))
+
+-- so the answer's number is 0 exactly for a good book
+pub number-good : (b : List ℕ) (r : Reply) → Bytes b → r ≡ shown (reading b) → numberOf (r .answer) ≡ 0 → GoodBook b
+number-good b r h e z = go (reading b) refl e
+  where
+    go : (g : Reading) → reading b ≡ g → r ≡ shown g → GoodBook b
+    go (good m) q w = let o = reading-only b m h q in record { book = m; fits = o .1; written = o .0 }
+    go (refused n p) q w = absurd (omega (arith, ap (λ (x : Reply). numberOf (x .answer)) w, refused-within b n p h q .0))
+
+pub number-bad : (b : List ℕ) (r : Reply) → Bytes b → r ≡ shown (reading b) → (numberOf (r .answer) ≡ 0 → ⊥) → Fault b (numberOf (r .answer)) (placeOf (r .answer))
+number-bad b r h e z = go (reading b) refl e
+  where
+    go : (g : Reading) → reading b ≡ g → r ≡ shown g → Fault b (numberOf (r .answer)) (placeOf (r .answer))
+    go (good m) q w = absurd (z (ap (λ (x : Reply). numberOf (x .answer)) w))
+    go (refused n p) q w = rw w (refused-fault b n p h q)

@@ -107,8 +107,8 @@ abbrev pub followsIn : ℕ → ℕ → ℕ → ℕ → ℕ → Bool
 followsIn last same many lightpaths k = ltb k lightpaths && leb last k && not (eqb (heldFor last same k) 0 && eqb many mostMovable) && not (eqb (heldFor last same k) mostForOne)
 
 -- a tally with one alternative of lightpath k more
-abbrev pub tallyWith : ℕ → ℕ → ℕ → ℕ → Tally
-tallyWith last same many k = record { last = k; same = heldFor last same k + 1; kinds = many + cond (eqb (heldFor last same k) 0) 1 0 }
+abbrev pub tallyWith : ℕ → ℕ → ℕ → ℕ → ℕ → Tally
+tallyWith lightpaths last same many k = record { lightpaths = lightpaths; last = k; same = heldFor last same k + 1; kinds = many + cond (eqb (heldFor last same k) 0) 1 0 }
 
 -- the alternative in the record at the head of d
 abbrev pub alternativeIn : List ℕ → Alternative
@@ -172,25 +172,29 @@ pub record LightpathsHeld (b : Book) : Type 0 where
   pub owners-low : OwnersLow (b .from) (b .to)
   pub route-long : length (b .route) ≡ 2432
 
--- a book with other rows
-abbrev pub withRows : Book → List ℕ → List ℕ → List ℕ → List ℕ → Book
-withRows b len route low high = record {
-  nodes = b .nodes;
-  spans = b .spans;
-  lightpaths = b .lightpaths;
-  alternatives = b .alternatives;
-  stations = b .stations;
-  left = b .left;
-  right = b .right;
-  limit = b .limit;
-  from = b .from;
-  to = b .to;
-  owner = b .owner;
-  len = len;
-  route = route;
-  low = low;
-  high = high;
+-- a book by its fields, in the struct's order, and a book with other rows
+abbrev pub remade : ℕ → ℕ → ℕ → ℕ → ℕ → List ℕ → List ℕ → List ℕ → List ℕ → List ℕ → List ℕ → List ℕ → List ℕ → List ℕ → List ℕ → Book
+remade n x p a st l r w f t o e q y z = record {
+  nodes = n;
+  spans = x;
+  lightpaths = p;
+  alternatives = a;
+  stations = st;
+  left = l;
+  right = r;
+  limit = w;
+  from = f;
+  to = t;
+  owner = o;
+  len = e;
+  route = q;
+  low = y;
+  high = z;
 }
+
+abbrev pub withRows : Book → List ℕ → List ℕ → List ℕ → List ℕ → Book
+withRows b len route low high =
+    remade (b .nodes) (b .spans) (b .lightpaths) (b .alternatives) (b .stations) (b .left) (b .right) (b .limit) (b .from) (b .to) (b .owner) len route low high
 
 -- the reader of `book`, cut after each kind of record: what is still to be read
 abbrev pub fromEnd : RouteBook → Reader RouteBook

@@ -3,6 +3,7 @@ use crate::Book;
 use crate::Step;
 use crate::record;
 use crate::record::Tally;
+use crate::record::al_no;
 use crate::row;
 use crate::set;
 ghost use mathlib.Core.Path.{_≡_};
@@ -190,21 +191,12 @@ pub(crate) fn with_alternatives(s: &[u8], at: usize, count: u8, b: Book) -> Fill
     let mut route = b.route;
     let mut low = b.low;
     let mut high = b.high;
-    let mut tally = Tally::none();
+    let mut tally = Tally::none(b.lightpaths);
     let mut place = at;
     let mut k = 0;
     while k < n {
         let d = &s[place..];
-        let no = record::al_no(
-            d,
-            b.lightpaths,
-            tally,
-            b.spans,
-            &b.from,
-            &b.to,
-            &b.left,
-            &b.right,
-        );
+        let no = al_no(d, tally, b.spans, &b.from, &b.to, &b.left, &b.right);
         if no != 0 {
             return stopped(no, place, b);
         }

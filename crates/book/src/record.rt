@@ -182,18 +182,21 @@ fn one_if(t: bool) -> u8
     if t { 1 } else { 0 }
 }
 
-// Of the alternatives so far: the last one's lightpath, how many are that lightpath's, and of how many lightpaths they are.
+// How many lightpaths there are; and of the alternatives so far, the last one's lightpath, how many are that lightpath's, and of how many
+// lightpaths they are.
 pub(crate) struct Tally {
+    pub lightpaths: u8,
     pub last: u8,
     pub same: u8,
     pub kinds: u8,
 }
 
 impl Tally {
-    pub(crate) fn none() -> Tally
-        ensures { λ r. ⌜ r ≡ record { last = 0; same = 0; kinds = 0 } ⌝ }
+    pub(crate) fn none(lightpaths: u8) -> Tally
+        ensures { λ r. ⌜ r ≡ record { lightpaths = lightpaths; last = 0; same = 0; kinds = 0 } ⌝ }
     {
         Tally {
+            lightpaths: lightpaths,
             last: 0,
             same: 0,
             kinds: 0,
@@ -208,10 +211,10 @@ impl Tally {
     }
 
     // Whether an alternative of lightpath k may stand next.
-    fn follows(self, lightpaths: u8, k: u8) -> bool
-        ensures { λ r. ⌜ r ≡ followsIn (self .last) (self .same) (self .kinds) lightpaths k ⌝ }
+    fn follows(self, k: u8) -> bool
+        ensures { λ r. ⌜ r ≡ followsIn (self .last) (self .same) (self .kinds) (self .lightpaths) k ⌝ }
     {
-        if lightpaths <= k {
+        if self.lightpaths <= k {
             return false;
         }
         if k < self.last {
@@ -227,11 +230,12 @@ impl Tally {
     // With one alternative more, of lightpath k.
     pub(crate) fn with(self, k: u8) -> Tally
         requires { ⌜ (self .same < 255) × (self .kinds < 255) ⌝ }
-        ensures { λ r. ⌜ r ≡ tallyWith (self .last) (self .same) (self .kinds) k ⌝ }
+        ensures { λ r. ⌜ r ≡ tallyWith (self .lightpaths) (self .last) (self .same) (self .kinds) k ⌝ }
     {
         let held = self.held_for(k);
         let fresh = one_if(held == 0);
         Tally {
+            lightpaths: self.lightpaths,
             last: k,
             same: held + 1,
             kinds: self.kinds + fresh,
@@ -241,7 +245,6 @@ impl Tally {
 
 pub(crate) fn al_no<'a>(
     d: &[u8],
-    lightpaths: u8,
     tally: Tally,
     spans: u8,
     from: &'a [u8; 96],
@@ -249,8 +252,8 @@ pub(crate) fn al_no<'a>(
     left: &'a [u8; 128],
     right: &'a [u8; 128],
 ) -> u8
-    requires { ⌜ EndsLow (now left) (now right) × (spans ≤ 128) × OwnersLow (now from) (now to) × (lightpaths ≤ 96) ⌝ }
-    ensures { λ r. ⌜ AlNo r (now (d .entry)) lightpaths (tally .last) (tally .same) (tally .kinds) spans (now (from .entry)) (now (to .entry)) (now (left .entry)) (now (right .entry)) ⌝ }
+    requires { ⌜ EndsLow (now left) (now right) × (spans ≤ 128) × OwnersLow (now from) (now to) × (tally .lightpaths ≤ 96) ⌝ }
+    ensures { λ r. ⌜ AlNo r (now (d .entry)) (tally .lightpaths) (tally .last) (tally .same) (tally .kinds) spans (now (from .entry)) (now (to .entry)) (now (left .entry)) (now (right .entry)) ⌝ }
 {
     let no = opened_no(d, 0x41, 0x4c, 2);
     if no != 0 {
@@ -258,7 +261,7 @@ pub(crate) fn al_no<'a>(
     }
     let k = d[2];
     let len = d[3];
-    if !tally.follows(lightpaths, k) {
+    if !tally.follows(k) {
         return 8;
     }
     let i = k as usize;

@@ -3,6 +3,7 @@
 use native.Mathlib.Omega.{arith}
 use borrow.Author.Needs.{needs}
 use Prim.Native.Nat.{ℕ, _+_, _-_, _*_, _≤_, _<_}
+use mathlib.Core.Path.{_≡_, refl}
 use lib.ListN.{length, getD, take, drop, length-take}
 use denote.Ref.{now}
 use Rattle.book.proofs.Routes.{part, lent}
@@ -11,7 +12,7 @@ use Rattle.book.proofs.fill.with_alternatives.Statement.{statement}
 use Rattle.book.proofs.fill.with_alternatives.Tie as tie
 
 abbrev Inv-loop : tie.InvT-loop
-Inv-loop s at count b n first owner₀ len₀ route₀ low₀ high₀ tally₀ place₀ k₀ owner len route low high tally place k = AlternativesTurned b s at count k place (tally .last) (tally .same) (tally .kinds) owner len route low high
+Inv-loop s at count b n first owner₀ len₀ route₀ low₀ high₀ tally₀ place₀ k₀ owner len route low high tally place k = (tally .lightpaths ≡ b .lightpaths) × AlternativesTurned b s at count k place (tally .last) (tally .same) (tally .kinds) owner len route low high
 
 abbrev μ-loop : tie.MeasureT-loop
 μ-loop s at count b n first owner₀ len₀ route₀ low₀ high₀ tally₀ place₀ k₀ owner len route low high tally place k = count - k
@@ -19,10 +20,10 @@ abbrev μ-loop : tie.MeasureT-loop
 -- the record at hand has no fault: it is there whole, and its route is short
 module _ (c : tie.Else1 Inv-loop μ-loop) where
   whole : c .before .before .before .before .before .before .before .before .before .loop .place + 4 + getD (now (c .before .before .before .before .before .before .before .before .before .before .before .before .before .before .before .before .args .s)) (c .before .before .before .before .before .before .before .before .before .loop .place + 3) 0 ≤ length (now (c .before .before .before .before .before .before .before .before .before .before .before .before .before .before .before .before .args .s))
-  whole = al-whole _ _ _ _ (c .before .before .before .before .before .before .before .before .before .loop .inv) (c .before .before .before .before .before .before .before .before .loop-test .taken) (rw (part (now (c .before .before .before .before .before .before .before .before .before .before .before .before .before .before .before .before .args .s)) (c .before .before .before .before .before .before .before .before .before .loop .place)) at (c .before .al-no .ensures)) (c .if1 .left)
+  whole = al-whole _ _ _ _ (c .before .before .before .before .before .before .before .before .before .loop .inv .1) (c .before .before .before .before .before .before .before .before .loop-test .taken) (rw (part (now (c .before .before .before .before .before .before .before .before .before .before .before .before .before .before .before .before .args .s)) (c .before .before .before .before .before .before .before .before .before .loop .place), c .before .before .before .before .before .before .before .before .before .loop .inv .0) at (c .before .al-no .ensures)) (c .if1 .left)
 
   short : getD (now (c .before .before .before .before .before .before .before .before .before .before .before .before .before .before .before .before .args .s)) (c .before .before .before .before .before .before .before .before .before .loop .place + 3) 0 ≤ 16
-  short = al-short _ _ _ _ (c .before .before .before .before .before .before .before .before .before .loop .inv) (c .before .before .before .before .before .before .before .before .loop-test .taken) (rw (part (now (c .before .before .before .before .before .before .before .before .before .before .before .before .before .before .before .before .args .s)) (c .before .before .before .before .before .before .before .before .before .loop .place)) at (c .before .al-no .ensures)) (c .if1 .left)
+  short = al-short _ _ _ _ (c .before .before .before .before .before .before .before .before .before .loop .inv .1) (c .before .before .before .before .before .before .before .before .loop-test .taken) (rw (part (now (c .before .before .before .before .before .before .before .before .before .before .before .before .before .before .before .before .args .s)) (c .before .before .before .before .before .before .before .before .before .loop .place), c .before .before .before .before .before .before .before .before .before .loop .inv .0) at (c .before .al-no .ensures)) (c .if1 .left)
 
 cast-first : tie.Need-cast-first Inv-loop μ-loop
 cast-first c = omega (arith, c .before .pre .2 .lightpaths-few)
@@ -31,25 +32,25 @@ none-requires : tie.Need-none-requires Inv-loop μ-loop
 none-requires c κs = search needs
 
 loop-holds : tie.Need-loop-holds Inv-loop μ-loop
-loop-holds c = rw (c .none .ensures) (alternatives-start _ _ _ _ (c .before .before .before .before .before .before .pre .0) (c .before .before .before .before .before .before .pre .2 .route-long))
+loop-holds c = rw (c .none .ensures) (refl, alternatives-start _ _ _ _ (c .before .before .before .before .before .before .pre .0) (c .before .before .before .before .before .before .pre .2 .route-long))
 
 sub-d : tie.Need-sub-d Inv-loop μ-loop
-sub-d c = c .before .loop .inv .within
+sub-d c = c .before .loop .inv .1 .within
 
 part-d-start : tie.Need-part-d-start Inv-loop μ-loop
-part-d-start c = c .before .loop .inv .within
+part-d-start c = c .before .loop .inv .1 .within
 
 part-d-end : tie.Need-part-d-end Inv-loop μ-loop
 part-d-end c = search needs
 
 al-no-requires : tie.Need-al-no-requires Inv-loop μ-loop
-al-no-requires c κs = let p = c .before .before .before .before .before .before .before .before .before .before .before .before .before .before .pre .2 in (p .ends-low, p .spans-few, p .owners-low, p .lightpaths-few)
+al-no-requires c κs = let p = c .before .before .before .before .before .before .before .before .before .before .before .before .before .before .pre .2 in (p .ends-low, p .spans-few, p .owners-low, omega (arith, c .before .before .before .before .before .before .before .loop .inv .0, p .lightpaths-few))
 
 stopped-requires : tie.Need-stopped-requires Inv-loop μ-loop
 stopped-requires c κs = search needs
 
 returns : tie.Need-returns Inv-loop μ-loop
-returns c = rw (c .stopped .ensures) (λ ns sps lps e f. alternatives-stop _ _ _ _ (c .before .before .before .before .before .before .before .before .before .before .loop .inv) (c .before .before .before .before .before .before .before .before .before .loop-test .taken) (rw (part (now (c .before .before .before .before .before .before .before .before .before .before .before .before .before .before .before .before .before .args .s)) (c .before .before .before .before .before .before .before .before .before .before .loop .place)) at (c .before .before .al-no .ensures)) (c .before .if1 .taken) ns sps lps e)
+returns c = rw (c .stopped .ensures) (λ ns sps lps e f. alternatives-stop _ _ _ _ (c .before .before .before .before .before .before .before .before .before .before .loop .inv .1) (c .before .before .before .before .before .before .before .before .before .loop-test .taken) (rw (part (now (c .before .before .before .before .before .before .before .before .before .before .before .before .before .before .before .before .before .args .s)) (c .before .before .before .before .before .before .before .before .before .before .loop .place), c .before .before .before .before .before .before .before .before .before .before .loop .inv .0) at (c .before .before .al-no .ensures)) (c .before .if1 .taken) ns sps lps e)
 
 add-who : tie.Need-add-who Inv-loop μ-loop
 add-who c = omega (arith, whole c)
@@ -64,7 +65,7 @@ shared-slice-read-l : tie.Need-shared-slice-read-l Inv-loop μ-loop
 shared-slice-read-l c = omega (arith, whole (c .before .before))
 
 with-requires : tie.Need-with-requires Inv-loop μ-loop
-with-requires c κs = let l = c .before .before .before .before .before .before .before .before .before .before .before .loop in (omega (arith, l .inv .same-few, c .before .before .before .before .before .before .before .before .before .before .loop-test .taken, c .before .before .before .before .before .before .before .before .before .before .before .before .before .before .before .before .before .before .pre .1), omega (arith, l .inv .many-few, c .before .before .before .before .before .before .before .before .before .before .loop-test .taken, c .before .before .before .before .before .before .before .before .before .before .before .before .before .before .before .before .before .before .pre .1))
+with-requires c κs = let l = c .before .before .before .before .before .before .before .before .before .before .before .loop in (omega (arith, l .inv .1 .same-few, c .before .before .before .before .before .before .before .before .before .before .loop-test .taken, c .before .before .before .before .before .before .before .before .before .before .before .before .before .before .before .before .before .before .pre .1), omega (arith, l .inv .1 .many-few, c .before .before .before .before .before .before .before .before .before .before .loop-test .taken, c .before .before .before .before .before .before .before .before .before .before .before .before .before .before .before .before .before .before .pre .1))
 
 array-write-owner : tie.Need-array-write-owner Inv-loop μ-loop
 array-write-owner c = omega (arith, c .before .before .before .before .before .before .before .before .before .before .before .before .before .before .before .before .before .before .before .pre .1, c .before .before .before .before .before .before .before .before .before .before .before .before .before .before .before .before .before .before .before .pre .2 .lightpaths-few, c .before .before .before .before .before .before .before .before .before .before .before .loop-test .taken)
@@ -101,7 +102,7 @@ put-row-requires c κs =
     let s = now (c .before .before .before .before .before .before .before .before .before .before .before .before .before .before .before .before .before .before .before .before .before .args .s) in
     let l = c .before .before .before .before .before .before .before .before .before .before .before .before .before .before .loop in
     let n = getD s (l .place + 3) 0 in
-    (l .inv .long, omega (arith, length-take (l .place + 4 + n - (l .place + 4)) (drop (l .place + 4) s), short (c .before .before .before .before .before), c .before .before .before .before .before .before .before .before .before .before .before .before .before .loop-test .taken, c .before .before .before .before .before .before .before .before .before .before .before .before .before .before .before .before .before .before .before .before .before .pre .1, c .before .before .before .before .before .before .before .before .before .before .before .before .before .before .before .before .before .before .before .before .before .pre .2 .lightpaths-few))
+    (l .inv .1 .long, omega (arith, length-take (l .place + 4 + n - (l .place + 4)) (drop (l .place + 4) s), short (c .before .before .before .before .before), c .before .before .before .before .before .before .before .before .before .before .before .before .before .loop-test .taken, c .before .before .before .before .before .before .before .before .before .before .before .before .before .before .before .before .before .before .before .before .before .pre .1, c .before .before .before .before .before .before .before .before .before .before .before .before .before .before .before .before .before .before .before .before .before .pre .2 .lightpaths-few))
 
 mul-low : tie.Need-mul-low Inv-loop μ-loop
 mul-low c = omega (arith, c .before .before .before .before .before .before .before .before .before .before .before .before .before .before .before .before .before .before .before .before .before .before .pre .1, c .before .before .before .before .before .before .before .before .before .before .before .before .before .before .before .before .before .before .before .before .before .before .pre .2 .lightpaths-few, c .before .before .before .before .before .before .before .before .before .before .before .before .before .before .loop-test .taken)
@@ -116,7 +117,7 @@ array-write-high : tie.Need-array-write-high Inv-loop μ-loop
 array-write-high c = omega (arith, c .before .before .before .before .before .before .before .before .before .before .before .before .before .before .before .before .before .before .before .before .before .before .pre .1, c .before .before .before .before .before .before .before .before .before .before .before .before .before .before .before .before .before .before .before .before .before .before .pre .2 .lightpaths-few, c .before .before .before .before .before .before .before .before .before .before .before .before .before .before .loop-test .taken)
 
 add-k : tie.Need-add-k Inv-loop μ-loop
-add-k c = search needs
+add-k c = omega (arith, c .before .before .before .before .before .before .before .before .before .before .before .before .before .before .before .before .before .before .before .before .before .before .pre .1, c .before .before .before .before .before .before .before .before .before .before .before .before .before .before .loop-test .taken)
 
 loop-less : tie.Need-loop-less Inv-loop μ-loop
 loop-less c = search needs
@@ -125,15 +126,17 @@ loop-again : tie.Need-loop-again Inv-loop μ-loop
 loop-again c =
     let s = now (c .before .before .before .before .before .before .before .before .before .before .before .before .before .before .before .before .before .before .before .before .before .before .args .s) in
     let l = c .before .before .before .before .before .before .before .before .before .before .before .before .before .before .before .loop in
-    rw (c .put-row .ensures .0, c .put-row .ensures .1, c .before .before .before .with .ensures)
-    (alternatives-next _ _ _ _ (l .inv) (c .before .before .before .before .before .before .before .before .before .before .before .before .before .before .loop-test .taken) (rw (part s (l .place)) at (c .before .before .before .before .before .before .before .al-no .ensures)) (c .before .before .before .before .before .before .if1 .left) (c .before .before .before .before .before .before .before .before .before .before .before .before .before .before .before .before .before .before .before .before .before .before .pre .1) (c .before .before .before .before .before .before .before .before .before .before .before .before .before .before .before .before .before .before .before .before .before .before .pre .2 .lightpaths-few) _
-    (lent s (l .place + 4) (getD s (l .place + 3) 0)))
+    rw (c .put-row .ensures .0, c .put-row .ensures .1, c .before .before .before .with .ensures) (
+      l .inv .0,
+      alternatives-next _ _ _ _ (l .inv .1) (c .before .before .before .before .before .before .before .before .before .before .before .before .before .before .loop-test .taken) (rw (part s (l .place), l .inv .0) at (c .before .before .before .before .before .before .before .al-no .ensures)) (c .before .before .before .before .before .before .if1 .left) (c .before .before .before .before .before .before .before .before .before .before .before .before .before .before .before .before .before .before .before .before .before .before .pre .1) (c .before .before .before .before .before .before .before .before .before .before .before .before .before .before .before .before .before .before .before .before .before .before .pre .2 .lightpaths-few) _
+          (lent s (l .place + 4) (getD s (l .place + 3) 0)),
+    )
 
 with-rows-requires : tie.Need-with-rows-requires Inv-loop μ-loop
 with-rows-requires c κs = search needs
 
 returns-2 : tie.Need-returns-2 Inv-loop μ-loop
-returns-2 c = rw (c .with-rows .ensures) (alternatives-done _ _ _ _ (c .before .before .loop .inv) (c .before .loop-test .left))
+returns-2 c = rw (c .with-rows .ensures) (alternatives-done _ _ _ _ (c .before .before .loop .inv .1) (c .before .loop-test .left))
 
 pub with-alternatives-spec : {M : Type 1} → statement M
 with-alternatives-spec =

@@ -30,13 +30,13 @@ returns-2 : tie.Need-returns-2
 returns-2 c = al-follows _ _ _ _ _ _ _ _ _ _ (c .before .before .before .before .before .opened-no .ensures) (c .before .before .before .before .if1 .left) (sym (c .before .follows .ensures) ∙ not-true _ (c .if2 .taken))
 
 cast-i : tie.Need-cast-i
-cast-i c = let s = c .before .before .before .before .before .before .before in omega (arith, follows-low (s .args .tally .last) (s .args .tally .same) (s .args .tally .kinds) (s .args .lightpaths) (getD (now (s .args .d)) 2 0) (sym (c .before .follows .ensures) ∙ not-false _ (c .if2 .left)) .0)
+cast-i c = let s = c .before .before .before .before .before .before .before in omega (arith, follows-low (s .args .tally .last) (s .args .tally .same) (s .args .tally .kinds) (s .args .tally .lightpaths) (getD (now (s .args .d)) 2 0) (sym (c .before .follows .ensures) ∙ not-false _ (c .if2 .left)) .0)
 
 element-copy-out-a : tie.Need-element-copy-out-a
-element-copy-out-a c = let s = c .before .before .before .before .before .before .before in omega (arith, follows-low (s .args .tally .last) (s .args .tally .same) (s .args .tally .kinds) (s .args .lightpaths) (getD (now (s .args .d)) 2 0) (sym (c .before .follows .ensures) ∙ not-false _ (c .if2 .left)) .0)
+element-copy-out-a c = let s = c .before .before .before .before .before .before .before in omega (arith, follows-low (s .args .tally .last) (s .args .tally .same) (s .args .tally .kinds) (s .args .tally .lightpaths) (getD (now (s .args .d)) 2 0) (sym (c .before .follows .ensures) ∙ not-false _ (c .if2 .left)) .0)
 
 element-copy-out-b : tie.Need-element-copy-out-b
-element-copy-out-b c = let s = c .before .before .before .before .before .before .before .before in omega (arith, follows-low (s .args .tally .last) (s .args .tally .same) (s .args .tally .kinds) (s .args .lightpaths) (getD (now (s .args .d)) 2 0) (sym (c .before .before .follows .ensures) ∙ not-false _ (c .before .if2 .left)) .0)
+element-copy-out-b c = let s = c .before .before .before .before .before .before .before .before in omega (arith, follows-low (s .args .tally .last) (s .args .tally .same) (s .args .tally .kinds) (s .args .tally .lightpaths) (getD (now (s .args .d)) 2 0) (sym (c .before .before .follows .ensures) ∙ not-false _ (c .before .if2 .left)) .0)
 
 sub-route-no : tie.Need-sub-route-no
 sub-route-no c = omega (arith, c .before .before .before .before .before .before .before .opened-no .ensures .whole (c .before .before .before .before .before .before .if1 .left))

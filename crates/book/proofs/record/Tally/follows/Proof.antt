@@ -21,7 +21,7 @@ held-for-requires : tie.Need-held-for-requires
 held-for-requires c κs = search needs
 
 returns-3 : tie.Need-returns-3
-returns-3 c = simp (lt-ltb _ _ (c .before .before .before .before .before .if1 .left), le-leb _ _ (c .before .before .before .if2 .left), sym (c .before .before .held-for .ensures) ∙ c .before .if3 .taken) (ninth (eqb (c .before .before .before .before .before .before .args .self .kinds) 8))
+returns-3 c = simp (lt-ltb _ _ (c .before .before .before .before .before .if1 .left), le-leb _ _ (c .before .before .before .if2 .left), sym (c .before .before .held-for .ensures) ∙ c .before .if3 .taken) (ninth (eqb (c .before .before .before .before .before .before .before .args .self .kinds) 8))
 
 returns-4 : tie.Need-returns-4
 returns-4 c = simp (lt-ltb _ _ (c .before .before .before .before .if1 .left), le-leb _ _ (c .before .before .if2 .left), sym (c .before .held-for .ensures), ne-eqb _ _ (c .if3 .left))
