@@ -1,8 +1,7 @@
 -- Sets as numbers: what is in a set after one more is put in, over any width, and the machine's shift, mask and or say the same.
 -- A set is its bits, and the bits of an or are the greater of the two, so every law goes bit by bit.
-use Prim.Native.Nat.{ℕ, zero, suc, _+_, _-_, _*_, _/_, _%_, _^_, _<_, _≤_, max}
+use Prim.Native.Nat.{ℕ, zero, suc, _*_, _/_, _%_, _^_, _<_, max}
 use mathlib.Core.Path.{_≡_, refl, sym, ap, _∙_}
-use mathlib.Core.Bool.{Bool, true, false}
 use native.Mathlib.Nat.{div-one, zero-div}
 use native.Mathlib.Omega.{arith}
 use native.Mathlib.Numerals.{one-add}

@@ -1,11 +1,10 @@
 -- The book that holds what was read, kind by kind: after each record the arrays hold one more, and after the last the book holds them all.
 -- What is left to read is the business of proofs/Turns.antt; here stands what is in the arrays.
-use Prim.Native.Nat.{ℕ, zero, suc, _+_, _-_, _≤_, _<_}
-use mathlib.Core.Path.{_≡_, refl, sym, ap, _∙_, subst}
-use mathlib.Core.List.{List, [], _∷_, _++_, map, reverse, reverse-cons}
+use Prim.Native.Nat.{ℕ, _+_, _≤_, _<_}
+use mathlib.Core.Path.{_≡_, refl, sym, ap, _∙_}
+use mathlib.Core.List.{List, [], _∷_, map, reverse, reverse-cons}
 use mathlib.Core.Bool.{Bool}
 use native.Mathlib.Omega.{arith}
-use native.Mathlib.Nat.{zero-add}
 use lib.ListN.{length, getD, drop, set, replicate, length-reverse}
 use lib.Seq.{getD-drop}
 use lib.Dec.{eqb}

@@ -1,17 +1,16 @@
 -- THE LAW of the format: reading says good with the book m exactly if m is well formed and the bytes are `encode m`.
 -- So no book has a second encoding, and nothing is accepted by accident; each kind of record brings its own pair of laws.
-use Prim.Native.Nat.{ℕ, zero, suc, _+_, _-_, _≤_, _<_}
+use Prim.Native.Nat.{ℕ}
 use mathlib.Core.Path.{_≡_, refl, sym, ap, _∙_, subst}
 use mathlib.Core.List.{List, [], _∷_, _++_, map}
-use mathlib.Core.Bool.{Bool, true, false, cond, _&&_, false≢true}
+use mathlib.Core.Bool.{Bool, true, false≢true}
 use native.Mathlib.Omega.{arith}
-use lib.ListN.{length, getD}
-use Rattle.book.specs.Reader.{Got, got, bad, Reader, andThen, need, begun, each, opened}
-use Rattle.book.specs.Book.{Span, Ends, Lightpath, Alternative, RouteBook, some, every, endsOf, countsFit, spanFits, lightpathFits, alternativeFits, wellFormed}
-use Rattle.book.specs.Format.{EN, bytesOf, hdBytes, ndBytes, spBytes, lpBytes, alBytes, enBytes, encode, field, hd, nd, sp, lp, al, atEnd, book, Reading, good, refused, placed, reading}
-use Rattle.book.proofs.Tests.{and-inv, and-both}
+use lib.ListN.{length}
+use Rattle.book.specs.Reader.{Got, got, bad, andThen, need, opened}
+use Rattle.book.specs.Book.{RouteBook, some, every, endsOf, countsFit, wellFormed}
+use Rattle.book.specs.Format.{EN, bytesOf, hdBytes, ndBytes, spBytes, lpBytes, alBytes, enBytes, encode, field, hd, atEnd, book, good, placed, reading}
 use Rattle.book.proofs.Parts.{parts, whole}
-use Rattle.book.proofs.Readers.{Bytes, bytes-after, apart, then-got, need-got, carried, joined, opened-back, opened-only, each-back, each-then}
+use Rattle.book.proofs.Readers.{Bytes, bytes-after, then-got, need-got, carried, opened-back, opened-only, each-back, each-then}
 use Rattle.book.proofs.Records.{hd-back, hd-only, nd-right, sp-right, lp-right, al-right}
 
 pub every-true : {A : Type 0} (before l : List A) → every (λ b a. true) before l ≡ true

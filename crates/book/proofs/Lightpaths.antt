@@ -1,18 +1,18 @@
 -- The loops over LP and AL records: what a book's arrays say of its spans and lightpaths, and what they hold after one more record.
 -- Both kinds end with a route, whose row is the business of proofs/Rows.antt; what is left to read is that of proofs/Turns.antt.
-use Prim.Native.Nat.{ℕ, zero, suc, _+_, _-_, _*_, _≤_, _<_}
+use Prim.Native.Nat.{ℕ, suc, _+_, _*_, _≤_, _<_}
 use mathlib.Core.Path.{_≡_, refl, sym, ap, _∙_, subst}
 use mathlib.Core.List.{List, [], _∷_, _++_, map, map-append, map-map, append-nil, append-assoc, reverse, reverse-cons}
-use mathlib.Core.Bool.{Bool, true, false, cond}
+use mathlib.Core.Bool.{Bool, true, cond}
 use native.Mathlib.Omega.{arith}
 use lib.ListN.{length, getD, take, drop, set, replicate, length-map, length-append, length-reverse, length-drop, List·getD-map}
 use lib.Seq.{paste, length-paste, getD-drop, drop-drop, length-take-le}
 use lib.Dec.{eqb}
 use Rattle.book.specs.declared.Book.{Book}
 use Rattle.book.specs.Reader.{each}
-use Rattle.book.specs.Book.{Span, Ends, Lightpath, Alternative, every, lightpathEnds, lightpathFits, lengthFits, endsOf, endsAt, lightpathOf}
+use Rattle.book.specs.Book.{Span, Ends, Lightpath, Alternative, every, lightpathEnds, lightpathFits, lengthFits, endsOf, lightpathOf}
 use Rattle.book.specs.Format.{lp, al}
-use Rattle.book.specs.Bits.{spanWord, stationSet}
+use Rattle.book.specs.Bits.{spanWord}
 use Rattle.book.specs.Memory.{padded, rows, routesOf, bookOf}
 use Rattle.book.specs.Inside.{remade, Numbered, SpansIn, EndsIn, LpNo, lightpathIn, TallyOf, AlNo, alternativeIn, heldFor, partly, Reached, Halted, HoldsLightpaths, HoldsAll}
 use Rattle.book.proofs.Tests.{and-inv}

@@ -11,7 +11,7 @@ use lib.Seq.{take-all, length-take-le}
 use lib.Dec.{leb, ltb}
 use borrow.Author.Tests.{leb-true, leb-false}
 use Rattle.book.specs.Reader.{Mark, isMark}
-use Rattle.book.specs.Book.{Span, Ends, RouteBook, some, below, every, endsOf, countsFit, spanFits, lightpathFits, wellFormed}
+use Rattle.book.specs.Book.{Span, Ends, RouteBook, below, every, endsOf, wellFormed}
 use Rattle.book.specs.Format.{bytesOf, ndBytes, spBytes, lpBytes, alBytes, encode, Reading, good, refused, reading}
 use Rattle.book.specs.Refusal.{Due, Stands, at-head, after-head, after-node, after-nodes, after-span, after-spans, after-lightpath, after-lightpaths, after-alternative, after-alternatives, after-ending, Opens, opens-HD, opens-ND, opens-SP, opens-LP, opens-AL, opens-EN, RouteDue, in-LP, in-AL, Row, row1-mark, row1-fields, row1-route, row2, row3, row4-node, row4-span, row4-lightpath, row5, row6, row7, row8, row9, row10}
 use Rattle.book.proofs.Tests.{and-inv, and-both}

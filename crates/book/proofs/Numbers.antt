@@ -1,15 +1,14 @@
 -- The number of a record's first fault, against the record's reader: how such a number is shown, and what it shows.
 -- Every record starts alike, so the mark and the fixed fields are dealt with once, test by test, and each kind adds its own tests.
-use Prim.Native.Nat.{ℕ, zero, suc, _+_, _-_, _≤_, _<_}
-use mathlib.Core.Path.{_≡_, refl, sym, ap, ap₂, _∙_, subst}
-use mathlib.Core.List.{List, [], _∷_, _++_}
-use mathlib.Core.Bool.{Bool, true, false, cond, not, _&&_}
+use Prim.Native.Nat.{ℕ, zero, suc, _+_, _≤_, _<_}
+use mathlib.Core.Path.{_≡_, refl, ap, ap₂, _∙_}
+use mathlib.Core.List.{List, [], _∷_}
+use mathlib.Core.Bool.{Bool, true, false}
 use native.Mathlib.Omega.{arith}
 use lib.ListN.{length, getD, take, drop, length-drop}
 use lib.Seq.{getD-take, getD-drop, drop-drop}
-use lib.Dec.{eqb, leb}
 use borrow.Author.Tests.{le-leb, lt-leb, eq-eqb, ne-eqb}
-use Rattle.book.specs.Reader.{Got, got, bad, Reader, andThen, _>>=_, _>>_, give, need, fields, Mark, isMark, opened}
+use Rattle.book.specs.Reader.{got, bad, Reader, _>>=_, _>>_, give, need, fields, Mark, opened}
 use Rattle.book.specs.Inside.{tab, Numbered}
 
 module _ {A : Type 0} {q : Reader A} {d : List ℕ} {a : A} {t : ℕ} where

@@ -1,12 +1,12 @@
 -- A list kept in an array, and rows of lists: one more element is one store, one more row is one copy, and a look-up reads the list.
 -- An array is its list and then noughts, so noughts at a row's end change nothing.
-use Prim.Native.Nat.{ℕ, zero, suc, _+_, _-_, _*_, _≤_, _<_, zero-le}
-use mathlib.Core.Path.{_≡_, refl, sym, ap, _∙_, subst}
-use mathlib.Core.List.{List, [], _∷_, _++_, append-assoc, append-nil, map}
+use Prim.Native.Nat.{ℕ, suc, _+_, _-_, _*_, _≤_, _<_}
+use mathlib.Core.Path.{_≡_, sym, ap, _∙_}
+use mathlib.Core.List.{List, [], _∷_, _++_, append-assoc, append-nil}
 use native.Mathlib.Omega.{arith}
 use native.Mathlib.Decide.{decLt}
 use lib.ListN.{length, getD, take, drop, set, replicate, length-append, length-replicate, getD-replicate, replicate-append-replicate, List·getD-eq-default, List·getD-append}
-use lib.Seq.{set-append-seam, take-append-seam, getD-append-add, paste, drop-append-add, take-at, drop-at, length-take-le}
+use lib.Seq.{set-append-seam, getD-append-add, paste, drop-append-add, take-at, drop-at, length-take-le}
 use native.Mathlib.Nat.{mul-add, mul-one}
 use Rattle.book.specs.Memory.{padded, rows}
 

@@ -1,7 +1,7 @@
 -- Well-formedness, taken apart: each of its five parts by name, for whoever needs one of them.
 -- Putting the five together gives well-formedness back, so nothing is lost.
 use mathlib.Core.Path.{_≡_}
-use mathlib.Core.List.{List, [], map}
+use mathlib.Core.List.{[], map}
 use mathlib.Core.Bool.{true}
 use lib.ListN.{length}
 use Rattle.book.specs.Book.{RouteBook, some, every, endsOf, countsFit, spanFits, lightpathFits, alternativeFits, wellFormed}

@@ -1,15 +1,15 @@
 -- Each kind of record: its reader and its encoding are each other's inverse over the values that fit.
 -- Every proof goes test by test, in the order of docs/BOOK.md, section 5.
-use Prim.Native.Nat.{ℕ, zero, suc, _+_, _≤_, _<_}
-use mathlib.Core.Path.{_≡_, refl, sym, ap, _∙_, subst}
+use Prim.Native.Nat.{ℕ}
+use mathlib.Core.Path.{_≡_, refl, sym, subst}
 use mathlib.Core.List.{List, [], _∷_, _++_, map}
-use mathlib.Core.Bool.{Bool, true, false, cond, _&&_}
+use mathlib.Core.Bool.{Bool, true, false, cond}
 use native.Mathlib.Omega.{arith}
-use lib.ListN.{length, getD}
+use lib.ListN.{length}
 use lib.Dec.{eqb, ltb, leb}
 use borrow.Author.Tests.{leb-true, eqb-true, eqb-false}
-use Rattle.book.specs.Reader.{Got, got, bad, Reader, andThen, need, fields, opened}
-use Rattle.book.specs.Book.{Span, Route, Ends, Lightpath, Alternative, below, countsFit, spanEnds, spanFits, lightpathEnds, lengthFits, routeWalks, routeFits, lightpathFits, follows, lightpathOf, endsAt, alternativeFits}
+use Rattle.book.specs.Reader.{got, andThen, need, fields, opened}
+use Rattle.book.specs.Book.{Span, Route, Ends, Alternative, below, countsFit, spanEnds, spanFits, lightpathEnds, lengthFits, routeWalks, routeFits, lightpathFits, follows, lightpathOf, endsAt, alternativeFits}
 use Rattle.book.specs.Format.{HD, ND, SP, LP, AL, recordBytes, hdBytes, ndBytes, spBytes, lpBytes, alBytes, field, hd, nd, sp, route, lp, al}
 use Rattle.book.proofs.Tests.{and-inv, and-both}
 use Rattle.book.proofs.Readers.{Bytes, bytes-after, then-got, need-got, carried, joined, fields-back, fields-only, opened-back, opened-only, Right}

@@ -1,9 +1,9 @@
 -- The two ends of a reading: the head, whose counts the rest relies on, and EN with nothing after it; and the reply that is made of it.
 -- A refusal's bytes are the book from its place on, so the place is what stands before them.
-use Prim.Native.Nat.{ℕ, zero, suc, _+_, _-_, _≤_, _<_}
-use mathlib.Core.Path.{_≡_, refl, sym, ap, _∙_}
-use mathlib.Core.List.{List, [], _∷_}
-use mathlib.Core.Bool.{Bool, true, false, _&&_}
+use Prim.Native.Nat.{ℕ, _+_, _-_, _≤_, _<_}
+use mathlib.Core.Path.{_≡_}
+use mathlib.Core.List.{List, []}
+use mathlib.Core.Bool.{_&&_}
 use native.Mathlib.Omega.{arith}
 use lib.ListN.{length, getD, drop, length-drop, drop-of-length-le}
 use lib.Seq.{drop-cons, drop-drop}
@@ -12,9 +12,9 @@ use borrow.Author.Tests.{leb-true}
 use Rattle.book.specs.declared.Book.{Book}
 use Rattle.book.specs.declared.Reply.{Reply}
 use Rattle.book.specs.declared.Answer.the-variants.{Good}
-use Rattle.book.specs.Reader.{Got, got, bad, andThen, opened}
-use Rattle.book.specs.Book.{RouteBook, countsFit}
-use Rattle.book.specs.Format.{EN, hd, atEnd, book, Reading, refused, placed, reading}
+use Rattle.book.specs.Reader.{Got, opened}
+use Rattle.book.specs.Book.{RouteBook}
+use Rattle.book.specs.Format.{EN, hd, book, reading}
 use Rattle.book.specs.Memory.{bookOf, shown}
 use Rattle.book.specs.Inside.{tab, Numbered, Reached, Halted, HoldsBook, fromNodes, fromEnd, refusedReply}
 use Rattle.book.proofs.Tests.{and-inv}

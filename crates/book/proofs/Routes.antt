@@ -1,19 +1,18 @@
 -- LP and AL records end alike, with a route: its number, test by test, and the number of the whole record from it.
 -- The ends of the route come from the LP record itself or from the lightpath that an AL record names.
-use Prim.Native.Nat.{ℕ, zero, suc, _+_, _-_, _≤_, _<_}
-use mathlib.Core.Path.{_≡_, refl, sym, ap, ap₂, _∙_, subst}
-use mathlib.Core.List.{List, [], _∷_, _++_, map}
-use mathlib.Core.Bool.{Bool, true, false, cond, not, _&&_}
-use native.Mathlib.Decide.{decLt}
+use Prim.Native.Nat.{ℕ, _+_, _-_, _≤_, _<_}
+use mathlib.Core.Path.{_≡_, refl, sym, _∙_, subst}
+use mathlib.Core.List.{List, map}
+use mathlib.Core.Bool.{Bool, true, false, cond}
 use native.Mathlib.Omega.{arith}
-use lib.ListN.{length, getD, take, drop, length-drop, List·getD-eq-default}
+use lib.ListN.{length, getD, take, drop, length-drop}
 use lib.Seq.{drop-drop, take-all}
-use lib.Dec.{eqb, ltb, leb}
-use borrow.Author.Tests.{le-leb, lt-leb, leb-true, lt-ltb, le-ltb, ltb-true, eq-eqb, ne-eqb}
+use lib.Dec.{eqb}
+use borrow.Author.Tests.{le-leb, lt-leb}
 use Rattle.book.specs.Reader.{Got, got, bad, Reader, andThen, _>>=_, _>>_, need, give, Mark, opened}
-use Rattle.book.specs.Book.{Span, Route, Ends, Lightpath, Alternative, below, lengthFits, routeWalks, lightpathEnds, follows, lightpathOf, endsAt, count, kinds, spanAt}
-use Rattle.book.specs.Format.{LP, AL, field, route, lp, al}
-use Rattle.book.specs.Bits.{has, put, putIf, stationsInto, stationSet}
+use Rattle.book.specs.Book.{Span, Route, Ends, Lightpath, Alternative, below, lengthFits, routeWalks, lightpathEnds, follows, lightpathOf, endsAt}
+use Rattle.book.specs.Format.{LP, AL, field, route}
+use Rattle.book.specs.Bits.{put, stationSet}
 use Rattle.book.specs.Inside.{tab, Numbered, SpansIn, walksIn, RouteNo, endsFit, LpNo, EndsIn, TallyOf, followsIn, AlNo}
 use Rattle.book.proofs.Numbers.{numbered-bad, numbered-got, on, off, Opened}
 use Rattle.book.proofs.Walking.{walks-in}

@@ -1,23 +1,23 @@
 -- From one kind of record to the next: a refusal of a part is one of the whole, and a part that is read hands on the rest.
 -- What the next kind relies on, ends and lengths within bounds, follows from the records that fit.
-use Prim.Native.Nat.{ℕ, zero, suc, _+_, _-_, _*_, _≤_, _<_, zero-le}
+use Prim.Native.Nat.{ℕ, zero, suc, _≤_, _<_}
 use mathlib.Core.Path.{_≡_, refl, sym, ap, _∙_, subst}
 use mathlib.Core.List.{List, [], _∷_, _++_, map, append-nil}
-use mathlib.Core.Bool.{Bool, true, false, not, _&&_, _||_, false≢true}
+use mathlib.Core.Bool.{Bool, true, false, _&&_, false≢true}
 use native.Mathlib.Decide.{decLt}
 use native.Mathlib.Omega.{arith}
 use lib.ListN.{length, getD, take, drop, length-map, take-append-drop, List·getD-eq-default}
-use lib.Dec.{eqb, ltb}
+use lib.Dec.{ltb}
 use borrow.Author.Tests.{ltb-true, lt-ltb}
 use Rattle.book.specs.declared.Book.{Book}
 use Rattle.book.specs.declared.Step.{Step}
 use Rattle.book.specs.declared.Step.the-variants.{Next, Bad}
-use Rattle.book.specs.Reader.{Got, got, bad, andThen, each}
-use Rattle.book.specs.Book.{Span, Ends, Lightpath, some, below, every, spanEnds, spanFits, spanAt, lightpathEnds, lightpathFits}
+use Rattle.book.specs.Reader.{Got, got, andThen, each}
+use Rattle.book.specs.Book.{Span, Lightpath, some, below, every, spanEnds, spanFits, lightpathEnds, lightpathFits}
 use Rattle.book.specs.Format.{nd, sp, lp}
-use Rattle.book.specs.Bits.{has, putIf, stationsInto, stationSet}
-use Rattle.book.specs.Memory.{padded, rows, bookOf}
-use Rattle.book.specs.Inside.{partly, Reached, Halted, Told, HoldsNodes, HoldsSpans, HoldsLightpaths, EndsLow, OwnersLow, SpansHeld, LightpathsHeld, NodesRead, SpansRead, LightpathsRead}
+use Rattle.book.specs.Bits.{has, stationsInto, stationSet}
+use Rattle.book.specs.Memory.{padded, rows}
+use Rattle.book.specs.Inside.{Reached, Halted, Told, HoldsNodes, HoldsSpans, HoldsLightpaths, EndsLow, SpansHeld, LightpathsHeld, NodesRead, SpansRead, LightpathsRead}
 use Rattle.book.proofs.Tests.{and-inv, and-both}
 use Rattle.book.proofs.Readers.{Bytes, bytes-after, each-only}
 use Rattle.book.proofs.Records.{nd-right, sp-right, lp-right}

@@ -1,16 +1,16 @@
 -- The set of stations holds node i exactly if node i is a station: nodes are put in one by one, each at its own number.
 -- So the code's test of a lightpath's ends is the test of docs/BOOK.md.
-use Prim.Native.Nat.{ℕ, zero, suc, _+_, _-_, _≤_, _<_, zero-le}
-use mathlib.Core.Path.{_≡_, refl, sym, ap, ap₂, _∙_}
+use Prim.Native.Nat.{ℕ, suc, _+_, _-_, _≤_, _<_, zero-le}
+use mathlib.Core.Path.{_≡_, refl, sym, ap, _∙_}
 use mathlib.Core.List.{List, [], _∷_, _++_}
-use mathlib.Core.Bool.{Bool, true, false, cond, not, _&&_}
+use mathlib.Core.Bool.{Bool, true, false, not, _&&_}
 use native.Mathlib.Decide.{decLt, ℕ-discrete}
-use native.Mathlib.Nat.{add-zero, suc-add, add-suc, zero-add}
+use native.Mathlib.Nat.{add-zero, suc-add, add-suc}
 use native.Mathlib.Omega.{arith}
 use lib.ListN.{length, getD, List·getD-eq-default}
 use lib.Dec.{eqb, ltb}
 use borrow.Author.Tests.{lt-ltb, le-ltb, ltb-true}
-use Rattle.book.specs.Bits.{bit, has, put, putIf, stationsInto, stationSet}
+use Rattle.book.specs.Bits.{has, putIf, stationsInto, stationSet}
 use Rattle.book.specs.Book.{Ends, lightpathEnds}
 use Rattle.book.specs.Inside.{endsFit}
 use Rattle.book.proofs.Tests.{and-inv}

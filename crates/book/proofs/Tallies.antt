@@ -1,12 +1,12 @@
 -- The tally of the alternatives so far stands for the list of their lightpaths: since these never fall, the ones of the last stand together,
 -- and no later lightpath has any yet. So three numbers are enough for all four grounds of refusal 8.
-use Prim.Native.Nat.{ℕ, zero, suc, _+_, _≤_, _<_, zero-le}
-use mathlib.Core.Path.{_≡_, refl, sym, ap, _∙_}
+use Prim.Native.Nat.{ℕ, _+_, _≤_, _<_, zero-le}
+use mathlib.Core.Path.{_≡_, refl, sym}
 use mathlib.Core.List.{List, [], _∷_}
-use mathlib.Core.Bool.{Bool, true, false, cond, not, _&&_, _||_, false≢true}
+use mathlib.Core.Bool.{Bool, true, false, cond, not, _&&_, _||_}
 use native.Mathlib.Decide.{ℕ-discrete, decLe}
 use native.Mathlib.Omega.{arith}
-use lib.ListN.{length, getD}
+use lib.ListN.{getD}
 use lib.Dec.{eqb, ltb, leb}
 use borrow.Author.Tests.{eq-eqb, ne-eqb, lt-leb, ltb-true, leb-true}
 use Rattle.book.specs.Book.{among, count, kinds, mostMovable, follows}

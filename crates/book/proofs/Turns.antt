@@ -1,8 +1,8 @@
 -- The loop over the records of a kind: after some of them, what is left to read gives what the whole gives, told those read, the last first.
 -- One law for every kind: a record is refused, or read and put in front of those before it.
-use Prim.Native.Nat.{ℕ, zero, suc, _+_, _-_, _≤_, _<_, zero-le}
+use Prim.Native.Nat.{ℕ, suc, _+_, _-_, _≤_, _<_, zero-le}
 use mathlib.Core.Path.{_≡_, refl, sym, ap, _∙_}
-use mathlib.Core.List.{List, [], _∷_, _++_, map, map-append, reverseAux, reverse, reverse-cons}
+use mathlib.Core.List.{List, [], _∷_, map, map-append, reverseAux, reverse, reverse-cons}
 use native.Mathlib.Omega.{arith}
 use lib.ListN.{length, drop, set, length-drop, length-map, length-reverse}
 use lib.Seq.{drop-drop}

@@ -1,14 +1,14 @@
 -- The words of a route hold span x exactly if the route holds it: each span is put in one by one, at its own place.
 -- This is what whoever asks "does this route ride that span" of a book in memory relies on.
-use Prim.Native.Nat.{ℕ, zero, suc, _+_, _*_, _/_, _%_, _≤_, _<_}
-use mathlib.Core.Path.{_≡_, refl, sym, ap, _∙_}
+use Prim.Native.Nat.{ℕ, _+_, _*_, _/_, _%_, _<_}
+use mathlib.Core.Path.{_≡_, refl, _∙_}
 use mathlib.Core.List.{List, [], _∷_}
 use mathlib.Core.Bool.{Bool, true, false, _||_}
 use native.Mathlib.Decide.{ℕ-discrete}
 use native.Mathlib.Omega.{arith}
 use lib.Dec.{eqb}
 use borrow.Author.Tests.{eq-eqb, ne-eqb, eqb-true, eqb-false}
-use Rattle.book.specs.Bits.{bit, has, put, putIf, wordInto, spanWord}
+use Rattle.book.specs.Bits.{bit, has, putIf, wordInto, spanWord}
 use Rattle.book.specs.Book.{among}
 use Rattle.book.proofs.Bits.{bit-of-zero, put-same, put-other}
 

@@ -1,7 +1,7 @@
 -- A set of numbers as one number: i is in the set x where bit i of x is 1. docs/BOOK.md, section 7.
-use Prim.Native.Nat.{ℕ, zero, suc, _+_, _*_, _/_, _%_, _^_}
+use Prim.Native.Nat.{ℕ, suc, _/_, _%_, _^_}
 use mathlib.Core.List.{List, [], _∷_}
-use mathlib.Core.Bool.{Bool, true, false, cond}
+use mathlib.Core.Bool.{Bool, cond}
 use lib.Dec.{eqb}
 use lib.Bits.{bitOr}
 

@@ -1,10 +1,10 @@
 -- The route book as bytes: how it is written, docs/BOOK.md, section 4, and how it is read, section 5.
-use Prim.Native.Nat.{ℕ, zero, suc, _+_, _-_}
+use Prim.Native.Nat.{ℕ, _-_}
 use mathlib.Core.List.{List, [], _∷_, _++_, map}
-use mathlib.Core.Bool.{Bool, true, false, cond, _&&_}
+use mathlib.Core.Bool.{Bool, true, false, cond}
 use lib.ListN.{length, getD}
 use lib.Dec.{eqb, leb}
-use Rattle.book.specs.Reader.{Got, got, bad, Reader, andThen, _>>=_, _>>_, give, need, begun, each, fields, Mark, opened}
+use Rattle.book.specs.Reader.{Got, got, bad, Reader, _>>=_, _>>_, give, need, begun, each, fields, Mark, opened}
 use Rattle.book.specs.Book.{Span, Route, Ends, Lightpath, Alternative, RouteBook, some, below, countsFit, spanEnds, lightpathEnds, lengthFits, routeWalks, follows, lightpathOf, endsOf, endsAt}
 
 -- B19: the marks, in ASCII

@@ -1,15 +1,15 @@
 -- What the private functions of the crate tell each other. Nothing here has to be believed: the contract of `read` does not name it.
 use Prim.Native.Nat.{ℕ, zero, suc, _+_, _/_, _%_, _≤_, _<_}
 use mathlib.Core.Path.{_≡_}
-use mathlib.Core.List.{List, [], _∷_, _++_, map}
-use mathlib.Core.Bool.{Bool, true, false, cond, not, _&&_, _||_}
+use mathlib.Core.List.{List, [], _∷_, map}
+use mathlib.Core.Bool.{Bool, true, cond, not, _&&_, _||_}
 use lib.ListN.{length, getD, take, drop}
 use lib.Dec.{eqb, ltb, leb}
-use Rattle.book.specs.Reader.{Got, got, bad, Reader, andThen, _>>=_, _>>_, give, need, begun, each, opened}
-use Rattle.book.specs.Book.{Span, Route, Ends, Lightpath, Alternative, RouteBook, mostForOne, mostMovable, some, every, spanFits, lightpathFits, spanAt, endsOf, endsAt, lightpathOf, count, kinds}
+use Rattle.book.specs.Reader.{Got, got, bad, Reader, _>>=_, _>>_, give, need, begun, each, opened}
+use Rattle.book.specs.Book.{Span, Ends, Lightpath, Alternative, RouteBook, mostForOne, mostMovable, some, every, spanFits, lightpathFits, spanAt, endsOf, endsAt, lightpathOf, count, kinds}
 use Rattle.book.specs.Format.{EN, nd, sp, route, lp, al, nothing}
 use Rattle.book.specs.Bits.{has, put, putIf, stationSet, spanWord}
-use Rattle.book.specs.Memory.{padded, bookOf, emptyBook}
+use Rattle.book.specs.Memory.{bookOf, emptyBook}
 use Rattle.book.specs.declared.Book.{Book}
 use Rattle.book.specs.declared.Answer.the-variants.{Refused}
 use Rattle.book.specs.declared.Reply.{Reply}

@@ -1,9 +1,8 @@
 -- How a book is held in memory, and the reader's answer: docs/BOOK.md, section 7. Every array is its list and then noughts.
-use Prim.Native.Nat.{ℕ, zero, suc, _-_}
+use Prim.Native.Nat.{ℕ, _-_}
 use mathlib.Core.List.{List, [], _∷_, _++_, map}
-use mathlib.Core.Bool.{Bool}
 use lib.ListN.{length, replicate}
-use Rattle.book.specs.Book.{Span, Route, Lightpath, Alternative, RouteBook, lightpathOf}
+use Rattle.book.specs.Book.{Span, Lightpath, Alternative, RouteBook, lightpathOf}
 use Rattle.book.specs.Format.{Reading, good, refused}
 use Rattle.book.specs.Bits.{stationSet, spanWord}
 use Rattle.book.specs.declared.Book.{Book}

@@ -1,7 +1,7 @@
 -- Reading front to back: what a reader of a record is, and the pieces of which docs/BOOK.md, section 5, makes them.
-use Prim.Native.Nat.{ℕ, zero, suc, _+_}
-use mathlib.Core.List.{List, [], _∷_, _++_}
-use mathlib.Core.Bool.{Bool, true, false, cond, _&&_}
+use Prim.Native.Nat.{ℕ, zero, suc}
+use mathlib.Core.List.{List, [], _∷_}
+use mathlib.Core.Bool.{Bool, cond, _&&_}
 use lib.ListN.{length, getD, take, drop}
 use lib.Dec.{eqb, leb}
 

@@ -1,6 +1,6 @@
 -- What each number of refusal means, in the words of docs/BOOK.md, section 6: how far a book stands, and what is wrong with the record that
 -- is due there.
-use Prim.Native.Nat.{ℕ, zero, suc, _+_, _≤_, _<_}
+use Prim.Native.Nat.{ℕ, suc, _+_, _≤_, _<_}
 use mathlib.Core.Path.{_≡_}
 use mathlib.Core.List.{List, [], _∷_, _++_, map, reverse}
 use mathlib.Core.Bool.{Bool, true, false}

@@ -9,7 +9,7 @@ use crate::set;
 ghost use mathlib.Core.Path.{_≡_};
 ghost use mathlib.Core.List.{List, [], map};
 ghost use mathlib.Core.Bool.{Bool, true};
-ghost use Prim.Native.Nat.{ℕ, _+_, _≤_, _<_};
+ghost use Prim.Native.Nat.{_+_, _≤_, _<_};
 ghost use lib.ListN.{length, drop};
 ghost use Rattle.book.specs.Reader.{each};
 ghost use Rattle.book.specs.Book.{Span, Lightpath, endsOf, every, lightpathFits};

@@ -3,9 +3,9 @@
 use crate::set;
 use crate::walk;
 ghost use mathlib.Core.Path.{_≡_};
-ghost use mathlib.Core.Bool.{true, cond};
-ghost use Prim.Native.Nat.{ℕ, _+_, _≤_, _<_};
-ghost use lib.ListN.{length, getD, take, drop};
+ghost use mathlib.Core.Bool.{cond};
+ghost use Prim.Native.Nat.{_+_, _≤_, _<_};
+ghost use lib.ListN.{getD};
 ghost use lib.Dec.{eqb};
 ghost use mathlib.Core.List.{[]};
 ghost use Rattle.book.specs.Reader.{opened};

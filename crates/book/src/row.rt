@@ -1,7 +1,7 @@
 // A route in a row of sixteen places, and its spans as a set of 128: two words.
 use crate::set;
 ghost use mathlib.Core.Path.{_≡_};
-ghost use Prim.Native.Nat.{ℕ, _+_, _≤_, _<_};
+ghost use Prim.Native.Nat.{_+_, _≤_, _<_};
 ghost use lib.ListN.{length};
 ghost use lib.Seq.{paste};
 ghost use Rattle.book.specs.Inside.{wordsOf, wordsInto};

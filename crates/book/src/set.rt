@@ -1,6 +1,6 @@
 // Sets of numbers below 64 as one word: bit i for number i.
 ghost use mathlib.Core.Path.{_≡_};
-ghost use Prim.Native.Nat.{ℕ, _<_};
+ghost use Prim.Native.Nat.{_<_};
 ghost use Rattle.book.specs.Bits.{has, put, putIf};
 
 pub(crate) fn has(x: u64, i: u8) -> bool

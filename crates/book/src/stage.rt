@@ -7,7 +7,7 @@ use crate::record;
 ghost use mathlib.Core.Path.{_≡_};
 ghost use mathlib.Core.List.{List, []};
 ghost use mathlib.Core.Bool.{Bool, true};
-ghost use Prim.Native.Nat.{ℕ, _+_, _≤_, _<_};
+ghost use Prim.Native.Nat.{_+_, _≤_, _<_};
 ghost use lib.ListN.{length, drop};
 ghost use Rattle.book.specs.Book.{Span, Lightpath, RouteBook, below, every, lightpathFits};
 ghost use Rattle.book.specs.Memory.{bookOf};

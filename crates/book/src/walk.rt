@@ -1,9 +1,8 @@
 // The walk of a route over the spans of a book: their ends stand in two arrays, the nodes met in one word.
 use crate::set;
 ghost use mathlib.Core.Path.{_≡_};
-ghost use mathlib.Core.Bool.{Bool, true};
-ghost use Prim.Native.Nat.{ℕ, _+_, _≤_, _<_};
-ghost use lib.ListN.{length, getD};
+ghost use mathlib.Core.Bool.{true};
+ghost use Prim.Native.Nat.{_<_};
 ghost use Rattle.book.specs.Bits.{put};
 ghost use Rattle.book.specs.Book.{below};
 ghost use Rattle.book.specs.Inside.{hopOf, walksIn, EndsLow};

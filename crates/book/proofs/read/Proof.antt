@@ -1,11 +1,10 @@
 -- A refusal of HD is one of the book; else the rest is read from its counts, and the step that comes back is the reply.
 use native.Mathlib.Omega.{arith}
 use borrow.Author.Needs.{needs}
-use mathlib.Core.Path.{_≡_, subst, _∙_}
+use mathlib.Core.Path.{subst, _∙_}
 use denote.Ref.{now}
-use lib.ListN.{getD, drop}
 use Rattle.book.specs.declared.Step.{Step}
-use Rattle.book.specs.Inside.{HoldsBook, Told, fromNodes}
+use Rattle.book.specs.Inside.{HoldsBook, Told}
 use Rattle.book.proofs.Stages.{told-on, all-bytes}
 use Rattle.book.proofs.Replies.{head-stop, head-few, rest, reply-good, reply-bad}
 use Rattle.book.proofs.read.Statement.{statement}

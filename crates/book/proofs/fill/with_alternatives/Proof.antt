@@ -2,9 +2,9 @@
 -- The tally stands for those read, so each record is tested against them.
 use native.Mathlib.Omega.{arith}
 use borrow.Author.Needs.{needs}
-use Prim.Native.Nat.{ℕ, _+_, _-_, _*_, _≤_, _<_}
+use Prim.Native.Nat.{_+_, _-_, _≤_}
 use mathlib.Core.Path.{_≡_, refl}
-use lib.ListN.{length, getD, take, drop, length-take}
+use lib.ListN.{length, getD, drop, length-take}
 use denote.Ref.{now}
 use Rattle.book.proofs.Routes.{part, lent}
 use Rattle.book.proofs.Lightpaths.{AlternativesTurned, alternatives-start, alternatives-next, alternatives-stop, alternatives-done, al-short, al-whole}

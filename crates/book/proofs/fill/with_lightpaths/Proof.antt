@@ -2,9 +2,9 @@
 -- That holds for every list of nodes and of spans of which the book handed in is the image.
 use native.Mathlib.Omega.{arith}
 use borrow.Author.Needs.{needs}
-use Prim.Native.Nat.{ℕ, _+_, _-_, _*_, _≤_, _<_}
-use mathlib.Core.List.{List, reverse}
-use lib.ListN.{length, getD, take, drop, length-map, length-reverse, length-take}
+use Prim.Native.Nat.{_+_, _-_, _≤_}
+use mathlib.Core.List.{reverse}
+use lib.ListN.{length, getD, drop, length-map, length-reverse, length-take}
 use denote.Ref.{now}
 use Rattle.book.proofs.Routes.{part, lent}
 use Rattle.book.proofs.Rows.{route-long}

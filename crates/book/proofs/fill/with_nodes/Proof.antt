@@ -1,7 +1,7 @@
 -- The loop over the ND records: the set of stations holds those read, and what is left to read gives what the whole gives.
 use native.Mathlib.Omega.{arith}
 use borrow.Author.Needs.{needs}
-use Prim.Native.Nat.{_-_, _≤_}
+use Prim.Native.Nat.{_-_}
 use denote.Ref.{now}
 use Rattle.book.proofs.Routes.{part}
 use Rattle.book.proofs.Filling.{NodesTurned, nodes-start, nodes-next, nodes-stop, nodes-done}

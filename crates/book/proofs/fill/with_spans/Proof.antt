@@ -2,7 +2,7 @@
 -- The number of nodes is that of the book handed in.
 use native.Mathlib.Omega.{arith}
 use borrow.Author.Needs.{needs}
-use Prim.Native.Nat.{ℕ, _-_, _≤_}
+use Prim.Native.Nat.{ℕ, _-_}
 use mathlib.Core.Path.{ap, subst}
 use mathlib.Core.List.{[]}
 use lib.ListN.{drop}

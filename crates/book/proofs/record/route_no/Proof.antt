@@ -4,7 +4,6 @@ use borrow.Author.Needs.{needs}
 use borrow.Author.Tests.{not-true, not-false}
 use mathlib.Core.Path.{sym, _∙_}
 use lib.Seq.{length-take-le}
-use Rattle.book.specs.Book.{below}
 use Rattle.book.proofs.Walking.{below-wider}
 use Rattle.book.proofs.Routes.{length-low, length-high, length-right, no-length, no-torn, no-high, no-walk, no-fault}
 use Rattle.book.proofs.record.route_no.Statement.{statement}

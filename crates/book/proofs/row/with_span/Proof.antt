@@ -1,6 +1,5 @@
 -- Each word takes the span exactly if the span is in it.
 use borrow.Author.Needs.{needs}
-use mathlib.Core.Path.{ap₂}
 use Rattle.book.proofs.row.with_span.Statement.{statement}
 use Rattle.book.proofs.row.with_span.Tie as tie
 

@@ -1,6 +1,6 @@
 -- What is left of the route, put into the words so far, gives the words of the whole.
 use borrow.Author.Needs.{needs}
-use mathlib.Core.Path.{_≡_, refl, sym, _∙_}
+use mathlib.Core.Path.{_≡_, refl, _∙_}
 use Prim.Native.Nat.{_-_, _≤_, zero-le}
 use lib.ListN.{length, drop, drop-of-length-le}
 use Rattle.book.specs.Bits.{wordInto, spanWord}

@@ -1,12 +1,9 @@
 -- A refusal of an AL record is one of the book; else EN is due, with the whole book read.
 use borrow.Author.Needs.{needs}
-use mathlib.Core.Path.{_≡_, sym, ap, _∙_}
-use mathlib.Core.List.{List, [], map}
-use mathlib.Core.Bool.{Bool}
-use Prim.Native.Nat.{ℕ}
-use lib.ListN.{length, drop}
+use mathlib.Core.List.{[], map}
+use lib.ListN.{drop}
 use denote.Ref.{now}
-use Rattle.book.specs.Reader.{Got, each}
+use Rattle.book.specs.Reader.{each}
 use Rattle.book.specs.Book.{endsOf}
 use Rattle.book.specs.Format.{al}
 use Rattle.book.specs.Inside.{partly, HoldsAll, HoldsBook, fromEnd}

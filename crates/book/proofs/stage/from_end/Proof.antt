@@ -3,7 +3,6 @@ use native.Mathlib.Omega.{arith}
 use borrow.Author.Needs.{needs}
 use denote.Ref.{now}
 use mathlib.Core.List.{[]}
-use Rattle.book.specs.Book.{RouteBook}
 use Rattle.book.proofs.Routes.{part}
 use Rattle.book.proofs.Replies.{end-stop, end-fits, end-more, end-good}
 use Rattle.book.proofs.stage.from_end.Statement.{statement}

@@ -1,15 +1,11 @@
 -- A refusal of an LP record is one of the book; else the AL records are due, with what the lightpaths say in the book.
 use borrow.Author.Needs.{needs}
-use mathlib.Core.Path.{_≡_, sym, ap, _∙_}
-use mathlib.Core.List.{List, [], map}
-use mathlib.Core.Bool.{Bool}
-use Prim.Native.Nat.{ℕ}
-use lib.ListN.{length, drop}
+use mathlib.Core.List.{[]}
+use lib.ListN.{drop}
 use denote.Ref.{now}
-use Rattle.book.specs.Reader.{Got, each}
-use Rattle.book.specs.Book.{Span}
+use Rattle.book.specs.Reader.{each}
 use Rattle.book.specs.Format.{lp}
-use Rattle.book.specs.Inside.{HoldsLightpaths, HoldsBook, SpansRead, fromAlternatives}
+use Rattle.book.specs.Inside.{HoldsLightpaths, HoldsBook, fromAlternatives}
 use Rattle.book.proofs.Stages.{told-off, told-on, told-then, spans-held, lightpaths-read, lightpaths-fit}
 use Rattle.book.proofs.stage.from_lightpaths.Statement.{statement}
 use Rattle.book.proofs.stage.from_lightpaths.Tie as tie

@@ -2,18 +2,16 @@
 -- Else the SP records are due.
 use borrow.Author.Needs.{needs}
 use mathlib.Core.Path.{_≡_, sym, ap, _∙_}
-use mathlib.Core.List.{List, [], map}
+use mathlib.Core.List.{List, []}
 use mathlib.Core.Bool.{Bool, true, false}
-use Prim.Native.Nat.{ℕ}
-use lib.ListN.{length, drop}
+use lib.ListN.{drop}
 use denote.Ref.{now}
 use Rattle.book.specs.Reader.{Got, each}
-use lib.ListN.{getD}
 use Rattle.book.specs.declared.Book.{Book}
 use Rattle.book.specs.Reader.{andThen, need}
 use Rattle.book.specs.Book.{some}
 use Rattle.book.specs.Format.{nd}
-use Rattle.book.specs.Inside.{HoldsNodes, HoldsBook, NodesRead, fromSpans}
+use Rattle.book.specs.Inside.{HoldsNodes, HoldsBook, fromSpans}
 use Rattle.book.proofs.Stages.{told-off, told-on, told-then, nodes-read, no-station, some-station}
 use Rattle.book.proofs.stage.from_nodes.Statement.{statement}
 use Rattle.book.proofs.stage.from_nodes.Tie as tie

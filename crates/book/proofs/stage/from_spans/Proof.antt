@@ -1,14 +1,11 @@
 -- A refusal of an SP record is one of the book; else the LP records are due, with what the spans say in the book.
 use borrow.Author.Needs.{needs}
-use mathlib.Core.Path.{_≡_, sym, ap, _∙_}
-use mathlib.Core.List.{List, [], map}
-use mathlib.Core.Bool.{Bool}
-use Prim.Native.Nat.{ℕ}
+use mathlib.Core.List.{[]}
 use lib.ListN.{length, drop}
 use denote.Ref.{now}
-use Rattle.book.specs.Reader.{Got, each}
+use Rattle.book.specs.Reader.{each}
 use Rattle.book.specs.Format.{sp}
-use Rattle.book.specs.Inside.{HoldsSpans, HoldsBook, NodesRead, fromLightpaths}
+use Rattle.book.specs.Inside.{HoldsSpans, HoldsBook, fromLightpaths}
 use Rattle.book.proofs.Stages.{told-off, told-on, told-then, spans-read}
 use Rattle.book.proofs.stage.from_spans.Statement.{statement}
 use Rattle.book.proofs.stage.from_spans.Tie as tie

@@ -1,7 +1,7 @@
 -- What is left of the route walks from the present node exactly if the whole walks from its start.
 -- Each turn is one step of the walk, and a step that fails ends it.
 use borrow.Author.Needs.{needs}
-use mathlib.Core.Path.{_≡_, refl, sym, _∙_}
+use mathlib.Core.Path.{_≡_, sym, _∙_}
 use Prim.Native.Nat.{_-_, _≤_, _<_, zero-le}
 use lib.ListN.{length, drop}
 use denote.Ref.{now}
