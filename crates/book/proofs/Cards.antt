@@ -42,3 +42,20 @@ e-reads = (refl, refl, refl)
 pub P10 : (reading [] ≡ refused 1 0) × (reading (take 74 E) ≡ refused 1 73) × (reading (E ++ (0 ∷ [])) ≡ refused 9 75)
 unfolding reading book each opened below some count kinds walks lengthFits spanEnds lightpathEnds follows
 P10 = (refl, refl, refl)
+
+-- every number is given: the rows of the table are not empty
+abbrev head : ℕ → ℕ → ℕ → ℕ → List ℕ → List ℕ
+head n x p a s = 0x48 ∷ 0x44 ∷ n ∷ x ∷ p ∷ a ∷ s
+
+abbrev node : ℕ → List ℕ → List ℕ
+node f s = 0x4e ∷ 0x44 ∷ f ∷ s
+
+abbrev pair : ℕ → ℕ → List ℕ → List ℕ
+pair p a s = head 2 1 p a (node 1 (node 1 (0x53 ∷ 0x50 ∷ 0 ∷ 1 ∷ 0 ∷ s)))
+
+pub every-number : (reading [] ≡ refused 1 0) × (reading (0 ∷ 0 ∷ []) ≡ refused 2 0) × (reading (head 0 0 0 0 []) ≡ refused 3 0) × (reading (head 1 0 0 0 (node 2 [])) ≡ refused 4 6)
+    × (reading (pair 1 0 (0x4c ∷ 0x50 ∷ 0 ∷ 1 ∷ 1 ∷ 1 ∷ [])) ≡ refused 5 17) × (reading (pair 1 0 (0x4c ∷ 0x50 ∷ 0 ∷ 1 ∷ 0 ∷ [])) ≡ refused 6 17)
+    × (reading (pair 1 0 (0x4c ∷ 0x50 ∷ 0 ∷ 1 ∷ 2 ∷ 0 ∷ 0 ∷ [])) ≡ refused 7 17) × (reading (pair 0 1 (0x41 ∷ 0x4c ∷ 0 ∷ 1 ∷ 0 ∷ [])) ≡ refused 8 17)
+    × (reading (head 1 0 0 0 (node 1 (0x45 ∷ 0x4e ∷ 0 ∷ []))) ≡ refused 9 11) × (reading (head 1 0 0 0 (node 0 [])) ≡ refused 10 9)
+unfolding reading book each opened below some count kinds walks lengthFits spanEnds lightpathEnds follows
+every-number = (refl, refl, refl, refl, refl, refl, refl, refl, refl, refl)

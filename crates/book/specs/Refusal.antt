@@ -55,24 +55,40 @@ pub data RouteDue : Due → List ℕ → List Span → Ends → ℕ → List ℕ
       → s ≡ recordBytes AL (l ∷ len ∷ []) ++ u → follows (length es) (map lightpathOf als) l ≡ true
       → RouteDue (alternatives sps es (suc k) als) s sps (endsAt es l) len u
 
--- B36 to B45: the rows of the table, for what is due at the bytes s
+-- the rows of the table, for what is due at the bytes s
 pub data Row : Due → List ℕ → ℕ → Type 0 where
+  -- B36, number 1: a record is due, and fewer than two bytes are left
   row1-mark : {d : Due} {m : Mark} {k : ℕ} {s : List ℕ} → Opens d m k → length s < 2 → Row d s 1
+  -- or its mark is there, and fewer bytes than its fixed fields
   row1-fields : {d : Due} {m : Mark} {k : ℕ} {s : List ℕ} → Opens d m k → 2 ≤ length s → isMark m s ≡ true → length s < 2 + k → Row d s 1
+  -- or a route of a length that fits is due, and fewer bytes than that are left
   row1-route : {d : Due} {s u : List ℕ} {sps : List Span} {e : Ends} {len : ℕ} → RouteDue d s sps e len u → lengthFits len ≡ true → length u < len → Row d s 1
+  -- B37, number 2: a record is due, two bytes are left, and they are not its mark
   row2 : {d : Due} {m : Mark} {k : ℕ} {s : List ℕ} → Opens d m k → 2 ≤ length s → isMark m s ≡ false → Row d s 2
+  -- B38, number 3: the counts of HD do not fit
   row3 : {s t : List ℕ} {n x p a : ℕ} → s ≡ hdBytes n x p a ++ t → countsFit n x p a ≡ false → Row head s 3
+  -- B39, number 4: the flag of an ND is above 1
   row4-node : {s t c : List ℕ} {k x : ℕ} {ns : List Bool} → s ≡ recordBytes ND (x ∷ []) ++ t → 1 < x → Row (nodes c (suc k) ns) s 4
-  row4-span : {s t c : List ℕ} {ns : List Bool} {k l r w : ℕ} {sps : List Span} → s ≡ recordBytes SP (l ∷ r ∷ w ∷ []) ++ t → spanEnds (length ns) l r ≡ false → Row (spans c ns (suc k) sps) s 4
+  -- or an end of an SP is no node, or its ends are equal
+  row4-span : {s t c : List ℕ} {ns : List Bool} {k l r w : ℕ} {sps : List Span}
+      → s ≡ recordBytes SP (l ∷ r ∷ w ∷ []) ++ t → spanEnds (length ns) l r ≡ false → Row (spans c ns (suc k) sps) s 4
+  -- or an end of an LP is no station, or its ends are equal
   row4-lightpath : {s u c : List ℕ} {ns : List Bool} {sps : List Span} {k f t len : ℕ} {lps : List Lightpath}
       → s ≡ recordBytes LP (f ∷ t ∷ len ∷ []) ++ u → lightpathEnds ns (record { from = f; to = t }) ≡ false → Row (lightpaths c ns sps (suc k) lps) s 4
-  row5 : {d : Due} {s : List ℕ} {sps : List Span} {e : Ends} (r v : List ℕ) → RouteDue d s sps e (length r) (r ++ v) → lengthFits (length r) ≡ true → below (length sps) r ≡ false → Row d s 5
+  -- B40, number 5: the bytes r of a route that is due are there, and a span number among them is not below the count
+  row5 : {d : Due} {s : List ℕ} {sps : List Span} {e : Ends} (r v : List ℕ)
+      → RouteDue d s sps e (length r) (r ++ v) → lengthFits (length r) ≡ true → below (length sps) r ≡ false → Row d s 5
+  -- B41, number 6: the length of a route that is due does not fit
   row6 : {d : Due} {s u : List ℕ} {sps : List Span} {e : Ends} {len : ℕ} → RouteDue d s sps e len u → lengthFits len ≡ false → Row d s 6
-  row7 : {d : Due} {s : List ℕ} {sps : List Span} {e : Ends} (r v : List ℕ) → RouteDue d s sps e (length r) (r ++ v) → lengthFits (length r) ≡ true → below (length sps) r ≡ true
-      → routeWalks sps e r ≡ false → Row d s 7
-  row8 : {s u : List ℕ} {sps : List Span} {es : List Ends} {k l len : ℕ} {als : List Alternative} → s ≡ recordBytes AL (l ∷ len ∷ []) ++ u
-      → follows (length es) (map lightpathOf als) l ≡ false → Row (alternatives sps es (suc k) als) s 8
+  -- B42, number 7: the span numbers of a route that is due are right, and the walk fails
+  row7 : {d : Due} {s : List ℕ} {sps : List Span} {e : Ends} (r v : List ℕ)
+      → RouteDue d s sps e (length r) (r ++ v) → lengthFits (length r) ≡ true → below (length sps) r ≡ true → routeWalks sps e r ≡ false → Row d s 7
+  -- B43, number 8: the lightpath of an AL may not follow those before it
+  row8 : {s u : List ℕ} {sps : List Span} {es : List Ends} {k l len : ℕ} {als : List Alternative}
+      → s ≡ recordBytes AL (l ∷ len ∷ []) ++ u → follows (length es) (map lightpathOf als) l ≡ false → Row (alternatives sps es (suc k) als) s 8
+  -- B44, number 9: a byte follows EN
   row9 : {x : ℕ} {s : List ℕ} → Row past (x ∷ s) 9
+  -- B45, number 10: all ND are read, and no node is a station
   row10 : {c s : List ℕ} {ns : List Bool} → some (reverse ns) ≡ false → Row (nodes c 0 ns) s 10
 
 -- B25: the book b is at fault by row n of the table, at the place p: it stands for p bytes, and there the row applies
