@@ -6,7 +6,7 @@ use mathlib.Core.List.{List, [], _∷_, _++_}
 use mathlib.Core.Bool.{true}
 use lib.ListN.{take}
 use Rattle.book.specs.Reader.{each, opened}
-use Rattle.book.specs.Book.{Span, Lightpath, RouteBook, below, every, count, kinds, some, spanEnds, lightpathEnds, lengthFits, walks, follows, wellFormed}
+use Rattle.book.specs.Book.{Span, Lightpath, RouteBook, below, every, count, different, some, spanEnds, lightpathEnds, lengthFits, walks, follows, wellFormed}
 use Rattle.book.specs.Format.{bytesOf, encode, book, good, refused, reading}
 
 -- docs/BOOK.md, the example book E
@@ -36,11 +36,11 @@ example = record {
 }
 
 pub e-reads : (reading E ≡ good example) × (encode example ≡ E) × (wellFormed example ≡ true)
-unfolding reading book each opened below some count kinds walks lengthFits spanEnds lightpathEnds follows encode bytesOf wellFormed every
+unfolding reading book each opened below some count different walks lengthFits spanEnds lightpathEnds follows encode bytesOf wellFormed every
 e-reads = (refl, refl, refl)
 
 pub P10 : (reading [] ≡ refused 1 0) × (reading (take 74 E) ≡ refused 1 73) × (reading (E ++ (0 ∷ [])) ≡ refused 9 75)
-unfolding reading book each opened below some count kinds walks lengthFits spanEnds lightpathEnds follows
+unfolding reading book each opened below some count different walks lengthFits spanEnds lightpathEnds follows
 P10 = (refl, refl, refl)
 
 -- every number is given: the rows of the table are not empty
@@ -57,5 +57,5 @@ pub every-number : (reading [] ≡ refused 1 0) × (reading (0 ∷ 0 ∷ []) ≡
     × (reading (pair 1 0 (0x4c ∷ 0x50 ∷ 0 ∷ 1 ∷ 1 ∷ 1 ∷ [])) ≡ refused 5 17) × (reading (pair 1 0 (0x4c ∷ 0x50 ∷ 0 ∷ 1 ∷ 0 ∷ [])) ≡ refused 6 17)
     × (reading (pair 1 0 (0x4c ∷ 0x50 ∷ 0 ∷ 1 ∷ 2 ∷ 0 ∷ 0 ∷ [])) ≡ refused 7 17) × (reading (pair 0 1 (0x41 ∷ 0x4c ∷ 0 ∷ 1 ∷ 0 ∷ [])) ≡ refused 8 17)
     × (reading (head 1 0 0 0 (node 1 (0x45 ∷ 0x4e ∷ 0 ∷ []))) ≡ refused 9 11) × (reading (head 1 0 0 0 (node 0 [])) ≡ refused 10 9)
-unfolding reading book each opened below some count kinds walks lengthFits spanEnds lightpathEnds follows
+unfolding reading book each opened below some count different walks lengthFits spanEnds lightpathEnds follows
 every-number = (refl, refl, refl, refl, refl, refl, refl, refl, refl, refl)

@@ -1,5 +1,5 @@
 -- The loops over LP and AL records: what a book's arrays say of its spans and lightpaths, and what they hold after one more record.
--- Both kinds end with a route, whose row is the business of proofs/Rows.antt; what is left to read is that of proofs/Turns.antt.
+-- Both different end with a route, whose row is the business of proofs/Rows.antt; what is left to read is that of proofs/Turns.antt.
 use Prim.Native.Nat.{ℕ, suc, _+_, _*_, _≤_, _<_}
 use mathlib.Core.Path.{_≡_, refl, sym, ap, _∙_, subst}
 use mathlib.Core.List.{List, [], _∷_, _++_, map, map-append, map-map, append-nil, append-assoc, reverse, reverse-cons}

@@ -78,12 +78,13 @@ span-low n x h =
     let c = and-inv {a = ltb (x .left) n} (b .0) in
     (ltb-true (x .left) n (c .0), ltb-true (x .right) n (c .1))
 
-from-low : (ns : List Bool) (sps : List Span) (p : Lightpath) → lightpathFits ns sps p ≡ true → p .ends .from < length ns
+path-low : (ns : List Bool) (sps : List Span) (p : Lightpath) → lightpathFits ns sps p ≡ true → (p .ends .from < length ns) × (p .ends .to < length ns)
 unfolding lightpathEnds
-from-low ns sps p h =
+path-low ns sps p h =
     let a = and-inv {a = lightpathEnds ns (p .ends)} h in
     let b = and-inv {a = getD ns (p .ends .from) false && getD ns (p .ends .to) false} (a .0) in
-    station-low ns (p .ends .from) (and-inv {a = getD ns (p .ends .from) false} (b .0) .0)
+    let c = and-inv {a = getD ns (p .ends .from) false} (b .0) in
+    (station-low ns (p .ends .from) (c .0), station-low ns (p .ends .to) (c .1))
 
 -- what the code relies on
 module _ (ns : List Bool) (sps : List Span) (few : length sps ≤ 128) (nodes : length ns ≤ 64) (h : every (λ b. spanFits (length ns)) [] sps ≡ true) where
@@ -98,6 +99,10 @@ module _ (ns : List Bool) (sps : List Span) (few : length sps ≤ 128) (nodes : 
 pub spans-held : {b : Book} → SpansRead b → SpansHeld b
 spans-held r = rw (r .is) (record { nodes-few = r .nodes-few; spans-few = r .spans-few; ends-low = ends-low (r .ns) (r .sps) (r .spans-few) (r .nodes-few) (r .fit) })
 
+-- what stands past the end of a list of lightpaths
+abbrev nowhere : Lightpath
+nowhere = record { ends = record { from = 0; to = 0 }; route = record { spans = [] } }
+
 pub lightpaths-held : {b : Book} → LightpathsRead b → LightpathsHeld b
 lightpaths-held r =
     let lps = r .lps in
@@ -109,8 +114,8 @@ lightpaths-held r =
       owners-low = record {
         from-long = padded-long 96 (map (λ (p : Lightpath). p .ends .from) lps) (omega (arith, length-map lps (λ (p : Lightpath). p .ends .from), r .lightpaths-few));
         to-long = padded-long 96 (map (λ (p : Lightpath). p .ends .to) lps) (omega (arith, length-map lps (λ (p : Lightpath). p .ends .to), r .lightpaths-few));
-        from-low = column-low 96 64 (λ (p : Lightpath). p .ends .from) (lightpathFits (r .ns) (r .sps)) (record { ends = record { from = 0; to = 0 }; route = record { spans = [] } }) lps refl (omega arith)
-            (λ p f. omega (arith, from-low (r .ns) (r .sps) p f, r .nodes-few)) (r .fit);
+        from-low = column-low 96 64 (λ (p : Lightpath). p .ends .from) (lightpathFits (r .ns) (r .sps)) nowhere lps refl (omega arith) (λ p f. omega (arith, path-low (r .ns) (r .sps) p f .0, r .nodes-few)) (r .fit);
+        to-low = column-low 96 64 (λ (p : Lightpath). p .ends .to) (lightpathFits (r .ns) (r .sps)) nowhere lps refl (omega arith) (λ p f. omega (arith, path-low (r .ns) (r .sps) p f .1, r .nodes-few)) (r .fit);
       };
       route-long = rw none (padded-long 2432 (rows 16 (map routeOf lps)) (omega (arith, routes-filled (r .ns) (r .sps) [] lps (r .fit), r .lightpaths-few)));
     })

@@ -83,5 +83,8 @@ ends-same ns e = go (decLt (e .from) (length ns)) (decLt (e .to) (length ns))
         rw (lt-ltb (e .from) (length ns) a, le-ltb (e .to) (length ns) (omega arith), List·getD-eq-default ns false {n = e .to} (omega arith), and-none (getD ns (e .from) false))
     go (no a) b = rw (le-ltb (e .from) (length ns) (omega arith), List·getD-eq-default ns false {n = e .from} (omega arith))
 
-pub ends-low : (nodes stations a b : ℕ) → endsFit nodes stations a b ≡ true → a < nodes
-ends-low nodes stations a b h = ltb-true a nodes (and-inv {a = ltb a nodes} h .0)
+pub ends-low : (nodes stations a b : ℕ) → endsFit nodes stations a b ≡ true → (a < nodes) × (b < nodes)
+ends-low nodes stations a b h =
+    let x = and-inv {a = ltb a nodes} h in
+    let y = and-inv {a = ltb b nodes} (x .1) in
+    (ltb-true a nodes (x .0), ltb-true b nodes (y .0))

@@ -9,13 +9,13 @@ use native.Mathlib.Omega.{arith}
 use lib.ListN.{getD}
 use lib.Dec.{eqb, ltb, leb}
 use borrow.Author.Tests.{eq-eqb, ne-eqb, lt-leb, ltb-true, leb-true}
-use Rattle.book.specs.Book.{among, count, kinds, mostMovable, follows}
+use Rattle.book.specs.Book.{among, count, different, mostWithAlternatives, follows}
 use Rattle.book.specs.Inside.{heldFor, TallyOf, followsIn}
 use Rattle.book.proofs.Tests.{and-inv}
 
 pub tally-none : TallyOf [] 0 0 0
-unfolding count kinds
-tally-none = record { is-last = refl; is-same = λ k l. none k (eqb k 0); is-kinds = refl }
+unfolding count different
+tally-none = record { is-last = refl; is-same = λ k l. none k (eqb k 0); is-different = refl }
   where
     none : (k : ℕ) (t : Bool) → _≡_ {A = ℕ} 0 (cond t 0 0)
     none k true = refl
@@ -45,7 +45,7 @@ count-among x (y ∷ ys) = go (ℕ-discrete x y) (count-among x ys)
 -- what may stand next is a lightpath, and not below the last
 pub follows-low : (last same many lightpaths k : ℕ) → followsIn last same many lightpaths k ≡ true → (k < lightpaths) × (last ≤ k)
 follows-low last same many lightpaths k h =
-    let a = and-inv {a = ltb k lightpaths && leb last k && not (eqb (heldFor last same k) 0 && eqb many mostMovable)} h in
+    let a = and-inv {a = ltb k lightpaths && leb last k && (ltb 0 (heldFor last same k) || ltb many mostWithAlternatives)} h in
     let b = and-inv {a = ltb k lightpaths && leb last k} (a .0) in
     let c = and-inv {a = ltb k lightpaths} (b .0) in
     (ltb-true k lightpaths (c .0), leb-true last k (c .1))
@@ -56,8 +56,8 @@ module _ (before : List ℕ) (last same many : ℕ) (t : TallyOf before last sam
   tally-follows lightpaths k = go (decLe last k)
     where
       go : Dec (last ≤ k) → followsIn last same many lightpaths k
-          ≡ (ltb k lightpaths && leb (getD before 0 0) k && not (eqb (count k before) 0 && eqb (kinds before) 8) && not (eqb (count k before) 7))
-      go (yes l) = rw (← t .is-last, t .is-same k l, ← t .is-kinds)
+          ≡ (ltb k lightpaths && leb (getD before 0 0) k && (ltb 0 (count k before) || ltb (different before) 8) && ltb (count k before) 7)
+      go (yes l) = rw (← t .is-last, t .is-same k l, ← t .is-different)
       go (no n) = rw (← t .is-last, lt-leb last k (omega arith)) (both (ltb k lightpaths) _ _ _ _)
         where
           both : (a b c d e : Bool) → (a && false && b && c) ≡ (a && false && d && e)
@@ -76,11 +76,11 @@ module _ (before : List ℕ) (last same many : ℕ) (t : TallyOf before last sam
             rw (ne-eqb k j (λ e. n (sym e)), ne-eqb j k n) (omega (arith, t .is-same j (omega arith), z))
 
     pub tally-more : TallyOf (k ∷ before) k (heldFor last same k + 1) (many + cond (eqb (heldFor last same k) 0) 1 0)
-    unfolding count kinds
+    unfolding count different
     tally-more = record {
       is-last = refl;
       is-same = later;
-      is-kinds = rw (count-among k before, t .is-same k l, ← t .is-kinds) (new (eqb (heldFor last same k) 0));
+      is-different = rw (count-among k before, t .is-same k l, ← t .is-different) (new (eqb (heldFor last same k) 0));
     }
       where
         new : (b : Bool) → many + cond b 1 0 ≡ cond (not b) 0 1 + many

@@ -52,8 +52,8 @@ mostAlternatives = 56
 abbrev pub mostForOne : ℕ
 mostForOne = 7
 
-abbrev pub mostMovable : ℕ
-mostMovable = 8
+abbrev pub mostWithAlternatives : ℕ
+mostWithAlternatives = 8
 
 abbrev pub longestRoute : ℕ
 longestRoute = 16
@@ -72,9 +72,9 @@ unfoldable pub count : ℕ → List ℕ → ℕ
 count k [] = 0
 count k (x ∷ xs) = cond (eqb x k) 1 0 + count k xs
 
-unfoldable pub kinds : List ℕ → ℕ
-kinds [] = 0
-kinds (x ∷ xs) = cond (among x xs) 0 1 + kinds xs
+unfoldable pub different : List ℕ → ℕ
+different [] = 0
+different (x ∷ xs) = cond (among x xs) 0 1 + different xs
 
 -- each of a list fits, given those before it, the last first
 unfoldable pub every : {A : Type 0} → (List A → A → Bool) → List A → List A → Bool
@@ -136,7 +136,7 @@ lightpathFits ns sps p = lightpathEnds ns (p .ends) && routeFits sps (p .ends) (
 -- the alternatives before it, the last first
 unfoldable pub follows : ℕ → List ℕ → ℕ → Bool
 follows lightpaths before k =
-    ltb k lightpaths && leb (getD before 0 0) k && not (eqb (count k before) 0 && eqb (kinds before) mostMovable) && not (eqb (count k before) mostForOne)
+    ltb k lightpaths && leb (getD before 0 0) k && (ltb 0 (count k before) || ltb (different before) mostWithAlternatives) && ltb (count k before) mostForOne
 
 abbrev pub lightpathOf : Alternative → ℕ
 lightpathOf a = a .lightpath

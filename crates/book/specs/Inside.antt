@@ -1,4 +1,4 @@
--- What the private functions of the crate tell each other. Nothing here has to be believed: the contract of `read` does not name it.
+-- What the private functions of the crate tell each other. The contract of `read` does not name any of it.
 use Prim.Native.Nat.{ℕ, zero, suc, _+_, _/_, _%_, _≤_, _<_}
 use mathlib.Core.Path.{_≡_}
 use mathlib.Core.List.{List, [], _∷_, map}
@@ -6,12 +6,11 @@ use mathlib.Core.Bool.{Bool, true, cond, not, _&&_, _||_}
 use lib.ListN.{length, getD, take, drop}
 use lib.Dec.{eqb, ltb, leb}
 use Rattle.book.specs.Reader.{Got, got, bad, Reader, _>>=_, _>>_, give, need, begun, each, opened}
-use Rattle.book.specs.Book.{Span, Ends, Lightpath, Alternative, RouteBook, mostForOne, mostMovable, some, every, spanFits, lightpathFits, spanAt, endsOf, endsAt, lightpathOf, count, kinds}
-use Rattle.book.specs.Format.{EN, nd, sp, route, lp, al, nothing}
+use Rattle.book.specs.Book.{Span, Ends, Lightpath, Alternative, RouteBook, mostForOne, mostWithAlternatives, some, every, spanFits, lightpathFits, spanAt, endsOf, endsAt, lightpathOf, count, different}
+use Rattle.book.specs.Format.{EN, nd, sp, route, lp, al, nothing, refused}
 use Rattle.book.specs.Bits.{has, put, putIf, stationSet, spanWord}
-use Rattle.book.specs.Memory.{bookOf, emptyBook}
+use Rattle.book.specs.Memory.{bookOf, shown}
 use Rattle.book.specs.declared.Book.{Book}
-use Rattle.book.specs.declared.Answer.the-variants.{Refused}
 use Rattle.book.specs.declared.Reply.{Reply}
 use Rattle.book.specs.declared.walk.Hop.{Hop}
 use Rattle.book.specs.declared.walk.Hop.the-variants.{To, Off}
@@ -88,6 +87,7 @@ pub record OwnersLow (from to : List ℕ) : Type 0 where
   pub from-long : length from ≡ 96
   pub to-long : length to ≡ 96
   pub from-low : (k : ℕ) → getD from k 0 < 64
+  pub to-low : (k : ℕ) → getD to k 0 < 64
 
 pub record EndsIn (es : List Ends) (n : ℕ) (from to : List ℕ) : Type 0 where
   pub counted : n ≡ length es
@@ -101,14 +101,15 @@ heldFor last same k = cond (eqb k last) same 0
 pub record TallyOf (before : List ℕ) (last same many : ℕ) : Type 0 where
   pub is-last : last ≡ getD before 0 0
   pub is-same : (k : ℕ) → last ≤ k → count k before ≡ heldFor last same k
-  pub is-kinds : many ≡ kinds before
+  pub is-different : many ≡ different before
 
 abbrev pub followsIn : ℕ → ℕ → ℕ → ℕ → ℕ → Bool
-followsIn last same many lightpaths k = ltb k lightpaths && leb last k && not (eqb (heldFor last same k) 0 && eqb many mostMovable) && not (eqb (heldFor last same k) mostForOne)
+followsIn last same many lightpaths k =
+    ltb k lightpaths && leb last k && (ltb 0 (heldFor last same k) || ltb many mostWithAlternatives) && ltb (heldFor last same k) mostForOne
 
 -- a tally with one alternative of lightpath k more
 abbrev pub tallyWith : ℕ → ℕ → ℕ → ℕ → ℕ → Tally
-tallyWith lightpaths last same many k = record { lightpaths = lightpaths; last = k; same = heldFor last same k + 1; kinds = many + cond (eqb (heldFor last same k) 0) 1 0 }
+tallyWith lightpaths last same many k = record { lightpaths = lightpaths; last = k; same = heldFor last same k + 1; different = many + cond (eqb (heldFor last same k) 0) 1 0 }
 
 -- the alternative in the record at the head of d
 abbrev pub alternativeIn : List ℕ → Alternative
@@ -128,7 +129,7 @@ wordsOf r = record { low = spanWord 0 r; high = spanWord 1 r }
 abbrev pub wordsInto : ℕ → ℕ → ℕ → Words
 wordsInto low high x = record { low = putIf (eqb (x / 64) 0) low (x % 64); high = putIf (eqb (x / 64) 1) high (x % 64) }
 
--- a book of which some kinds of records are read
+-- a book of which some different of records are read
 abbrev pub partly : List Bool → List Span → List Lightpath → List Alternative → RouteBook
 partly ns sps lps als = record { nodes = ns; spans = sps; lightpaths = lps; alternatives = als }
 
@@ -147,17 +148,21 @@ abbrev pub Told : {A : Type 0} → List ℕ → Got A → (A → Book → Type 0
 Told s g holds (Next at) b = Reached s g holds at b
 Told s g holds (Bad n p) b = Halted s g n p
 
+-- the book b holds m; and m is what was read so far
+abbrev pub HoldsBook : RouteBook → Book → Type 0
+HoldsBook m b = b ≡ bookOf m
+
 abbrev pub HoldsNodes : List Bool → Book → Type 0
-HoldsNodes ns b = b ≡ bookOf (partly ns [] [] [])
+HoldsNodes ns = HoldsBook (partly ns [] [] [])
 
 abbrev pub HoldsSpans : List Bool → List Span → Book → Type 0
-HoldsSpans ns sps b = b ≡ bookOf (partly ns sps [] [])
+HoldsSpans ns sps = HoldsBook (partly ns sps [] [])
 
 abbrev pub HoldsLightpaths : List Bool → List Span → List Lightpath → Book → Type 0
-HoldsLightpaths ns sps lps b = b ≡ bookOf (partly ns sps lps [])
+HoldsLightpaths ns sps lps = HoldsBook (partly ns sps lps [])
 
 abbrev pub HoldsAll : List Bool → List Span → List Lightpath → List Alternative → Book → Type 0
-HoldsAll ns sps lps als b = b ≡ bookOf (partly ns sps lps als)
+HoldsAll ns sps lps als = HoldsBook (partly ns sps lps als)
 
 -- what the code relies on in a book whose spans are read, and in one whose lightpaths are read too
 pub record SpansHeld (b : Book) : Type 0 where
@@ -224,9 +229,6 @@ fromNodes n x p a = do
   begun (need (some ns) 10)
   fromSpans x p a ns
 
-abbrev pub HoldsBook : RouteBook → Book → Type 0
-HoldsBook m b = b ≡ bookOf m
-
 -- a book of which the nodes are read; the spans too; the lightpaths too
 pub record NodesRead (b : Book) : Type 0 where
   pub ns : List Bool
@@ -253,4 +255,4 @@ pub record LightpathsRead (b : Book) : Type 0 where
   pub fit : every (λ before. lightpathFits ns sps) [] lps ≡ true
 
 abbrev pub refusedReply : ℕ → ℕ → Reply
-refusedReply n p = record { answer = Refused n p; book = bookOf emptyBook }
+refusedReply n p = shown (refused n p)

@@ -108,7 +108,7 @@ fn route_no<'a>(
     left: &'a [u8; 128],
     right: &'a [u8; 128],
 ) -> u8
-    requires { ⌜ EndsLow (now left) (now right) × (spans ≤ 128) × (from < 64) ⌝ }
+    requires { ⌜ EndsLow (now left) (now right) × (spans ≤ 128) × (from < 64) × (to < 64) ⌝ }
     ensures { λ r. ⌜ RouteNo r (now (d .entry)) len from to spans (now (left .entry)) (now (right .entry)) ⌝ }
 {
     if len < 1 {
@@ -188,18 +188,18 @@ pub(crate) struct Tally {
     pub lightpaths: u8,
     pub last: u8,
     pub same: u8,
-    pub kinds: u8,
+    pub different: u8,
 }
 
 impl Tally {
     pub(crate) fn none(lightpaths: u8) -> Tally
-        ensures { λ r. ⌜ r ≡ record { lightpaths = lightpaths; last = 0; same = 0; kinds = 0 } ⌝ }
+        ensures { λ r. ⌜ r ≡ record { lightpaths = lightpaths; last = 0; same = 0; different = 0 } ⌝ }
     {
         Tally {
             lightpaths: lightpaths,
             last: 0,
             same: 0,
-            kinds: 0,
+            different: 0,
         }
     }
 
@@ -212,7 +212,7 @@ impl Tally {
 
     // Whether an alternative of lightpath k may stand next.
     fn follows(self, k: u8) -> bool
-        ensures { λ r. ⌜ r ≡ followsIn (self .last) (self .same) (self .kinds) (self .lightpaths) k ⌝ }
+        ensures { λ r. ⌜ r ≡ followsIn (self .last) (self .same) (self .different) (self .lightpaths) k ⌝ }
     {
         if self.lightpaths <= k {
             return false;
@@ -222,15 +222,15 @@ impl Tally {
         }
         let held = self.held_for(k);
         if held == 0 {
-            return self.kinds != 8;
+            return self.different < 8;
         }
-        held != 7
+        held < 7
     }
 
     // With one alternative more, of lightpath k.
     pub(crate) fn with(self, k: u8) -> Tally
-        requires { ⌜ (self .same < 255) × (self .kinds < 255) ⌝ }
-        ensures { λ r. ⌜ r ≡ tallyWith (self .lightpaths) (self .last) (self .same) (self .kinds) k ⌝ }
+        requires { ⌜ (self .same < 255) × (self .different < 255) ⌝ }
+        ensures { λ r. ⌜ r ≡ tallyWith (self .lightpaths) (self .last) (self .same) (self .different) k ⌝ }
     {
         let held = self.held_for(k);
         let fresh = one_if(held == 0);
@@ -238,7 +238,7 @@ impl Tally {
             lightpaths: self.lightpaths,
             last: k,
             same: held + 1,
-            kinds: self.kinds + fresh,
+            different: self.different + fresh,
         }
     }
 }
@@ -253,7 +253,7 @@ pub(crate) fn al_no<'a>(
     right: &'a [u8; 128],
 ) -> u8
     requires { ⌜ EndsLow (now left) (now right) × (spans ≤ 128) × OwnersLow (now from) (now to) × (tally .lightpaths ≤ 96) ⌝ }
-    ensures { λ r. ⌜ AlNo r (now (d .entry)) (tally .lightpaths) (tally .last) (tally .same) (tally .kinds) spans (now (from .entry)) (now (to .entry)) (now (left .entry)) (now (right .entry)) ⌝ }
+    ensures { λ r. ⌜ AlNo r (now (d .entry)) (tally .lightpaths) (tally .last) (tally .same) (tally .different) spans (now (from .entry)) (now (to .entry)) (now (left .entry)) (now (right .entry)) ⌝ }
 {
     let no = opened_no(d, 0x41, 0x4c, 2);
     if no != 0 {

@@ -45,7 +45,7 @@ pub(crate) fn walk_ok<'a>(
     left: &'a [u8; 128],
     right: &'a [u8; 128],
 ) -> bool
-    requires { ⌜ EndsLow (now left) (now right) × (below 128 (now route) ≡ true) × (from < 64) ⌝ }
+    requires { ⌜ EndsLow (now left) (now right) × (below 128 (now route) ≡ true) × (from < 64) × (to < 64) ⌝ }
     ensures { λ r. ⌜ r ≡ walksIn (now (left .entry)) (now (right .entry)) (put 0 from) from (now (route .entry)) to ⌝ }
 {
     let mut met = set::put(0, from);

@@ -12,7 +12,7 @@ use Rattle.book.proofs.fill.with_alternatives.Statement.{statement}
 use Rattle.book.proofs.fill.with_alternatives.Tie as tie
 
 abbrev Inv-loop : tie.InvT-loop
-Inv-loop s at count b n first owner₀ len₀ route₀ low₀ high₀ tally₀ place₀ k₀ owner len route low high tally place k = (tally .lightpaths ≡ b .lightpaths) × AlternativesTurned b s at count k place (tally .last) (tally .same) (tally .kinds) owner len route low high
+Inv-loop s at count b n first owner₀ len₀ route₀ low₀ high₀ tally₀ place₀ k₀ owner len route low high tally place k = (tally .lightpaths ≡ b .lightpaths) × AlternativesTurned b s at count k place (tally .last) (tally .same) (tally .different) owner len route low high
 
 abbrev μ-loop : tie.MeasureT-loop
 μ-loop s at count b n first owner₀ len₀ route₀ low₀ high₀ tally₀ place₀ k₀ owner len route low high tally place k = count - k

@@ -30,13 +30,13 @@ returns-2 : tie.Need-returns-2
 returns-2 c = al-follows _ _ _ _ _ _ _ _ _ _ (c .before .before .before .before .before .opened-no .ensures) (c .before .before .before .before .if1 .left) (sym (c .before .follows .ensures) ∙ not-true _ (c .if2 .taken))
 
 cast-i : tie.Need-cast-i
-cast-i c = let s = c .before .before .before .before .before .before .before in omega (arith, follows-low (s .args .tally .last) (s .args .tally .same) (s .args .tally .kinds) (s .args .tally .lightpaths) (getD (now (s .args .d)) 2 0) (sym (c .before .follows .ensures) ∙ not-false _ (c .if2 .left)) .0)
+cast-i c = let s = c .before .before .before .before .before .before .before in omega (arith, follows-low (s .args .tally .last) (s .args .tally .same) (s .args .tally .different) (s .args .tally .lightpaths) (getD (now (s .args .d)) 2 0) (sym (c .before .follows .ensures) ∙ not-false _ (c .if2 .left)) .0)
 
 element-copy-out-a : tie.Need-element-copy-out-a
-element-copy-out-a c = let s = c .before .before .before .before .before .before .before in omega (arith, follows-low (s .args .tally .last) (s .args .tally .same) (s .args .tally .kinds) (s .args .tally .lightpaths) (getD (now (s .args .d)) 2 0) (sym (c .before .follows .ensures) ∙ not-false _ (c .if2 .left)) .0)
+element-copy-out-a c = let s = c .before .before .before .before .before .before .before in omega (arith, follows-low (s .args .tally .last) (s .args .tally .same) (s .args .tally .different) (s .args .tally .lightpaths) (getD (now (s .args .d)) 2 0) (sym (c .before .follows .ensures) ∙ not-false _ (c .if2 .left)) .0)
 
 element-copy-out-b : tie.Need-element-copy-out-b
-element-copy-out-b c = let s = c .before .before .before .before .before .before .before .before in omega (arith, follows-low (s .args .tally .last) (s .args .tally .same) (s .args .tally .kinds) (s .args .tally .lightpaths) (getD (now (s .args .d)) 2 0) (sym (c .before .before .follows .ensures) ∙ not-false _ (c .before .if2 .left)) .0)
+element-copy-out-b c = let s = c .before .before .before .before .before .before .before .before in omega (arith, follows-low (s .args .tally .last) (s .args .tally .same) (s .args .tally .different) (s .args .tally .lightpaths) (getD (now (s .args .d)) 2 0) (sym (c .before .before .follows .ensures) ∙ not-false _ (c .before .if2 .left)) .0)
 
 sub-route-no : tie.Need-sub-route-no
 sub-route-no c = omega (arith, c .before .before .before .before .before .before .before .opened-no .ensures .whole (c .before .before .before .before .before .before .if1 .left))
@@ -48,7 +48,7 @@ part-route-no-end : tie.Need-part-route-no-end
 part-route-no-end c = search needs
 
 route-no-requires : tie.Need-route-no-requires
-route-no-requires c κs = let s = c .before .before .before .before .before .before .before .before .before .before in (s .pre .0, s .pre .1, s .pre .2 .from-low (getD (now (s .args .d)) 2 0))
+route-no-requires c κs = let s = c .before .before .before .before .before .before .before .before .before .before in (s .pre .0, s .pre .1, s .pre .2 .from-low (getD (now (s .args .d)) 2 0), s .pre .2 .to-low (getD (now (s .args .d)) 2 0))
 
 returns-3 : tie.Need-returns-3
 returns-3 c =

@@ -45,7 +45,8 @@ route-no-requires : tie.Need-route-no-requires
 route-no-requires c κs =
     let s = c .before .before .before .before .before .before .before .before .before in
     let t = sym (c .before .before .ends-fit .ensures) ∙ not-false _ (c .before .if2 .left) in
-    (s .pre .0, s .pre .1, omega (arith, ends-low (s .args .nodes) (s .args .stations) (getD (now (s .args .d)) 2 0) (getD (now (s .args .d)) 3 0) t))
+    let e = ends-low (s .args .nodes) (s .args .stations) (getD (now (s .args .d)) 2 0) (getD (now (s .args .d)) 3 0) t in
+    (s .pre .0, s .pre .1, omega (arith, e .0), omega (arith, e .1))
 
 returns-3 : tie.Need-returns-3
 returns-3 c =

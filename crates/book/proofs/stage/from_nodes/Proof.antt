@@ -17,7 +17,7 @@ use Rattle.book.proofs.stage.from_nodes.Statement.{statement}
 use Rattle.book.proofs.stage.from_nodes.Tie as tie
 
 with-nodes-requires : tie.Need-with-nodes-requires
-with-nodes-requires c κs = let p = c .before .pre in (p .0, p .2)
+with-nodes-requires c κs = search needs
 
 enum-known-step : tie.Need-enum-known-step
 enum-known-step c = search needs
