@@ -1,5 +1,5 @@
--- The cards about reading that are proved, by computing: P10, each by a single statement over one list; and the example book, read and written.
--- The example shows besides that well-formed books exist, so that the laws over them are not empty.
+-- Worked examples, proved by computing: the card P10, each part a single statement over one list, and the example book E, read and written.
+-- They show besides that well-formed books exist and that every row of the refusal table applies to some bytes, so that no law is empty.
 use Prim.Native.Nat.{ℕ}
 use mathlib.Core.Path.{_≡_, refl}
 use mathlib.Core.List.{List, [], _∷_, _++_}
@@ -39,11 +39,11 @@ pub e-reads : (reading E ≡ good example) × (encode example ≡ E) × (wellFor
 unfolding reading book each opened below some count different walks lengthFits spanEnds lightpathEnds follows encode bytesOf wellFormed every
 e-reads = (refl, refl, refl)
 
-pub P10 : (reading [] ≡ refused 1 0) × (reading (take 74 E) ≡ refused 1 73) × (reading (E ++ (0 ∷ [])) ≡ refused 9 75)
+pub P10 : (x : ℕ) → (reading [] ≡ refused 1 0) × (reading (take 74 E) ≡ refused 1 73) × (reading (E ++ (x ∷ [])) ≡ refused 9 75)
 unfolding reading book each opened below some count different walks lengthFits spanEnds lightpathEnds follows
-P10 = (refl, refl, refl)
+P10 x = (refl, refl, refl)
 
--- every number is given: the rows of the table are not empty
+-- every row of the table applies to some bytes: 1 and 4 have three rows each
 abbrev head : ℕ → ℕ → ℕ → ℕ → List ℕ → List ℕ
 head n x p a s = 0x48 ∷ 0x44 ∷ n ∷ x ∷ p ∷ a ∷ s
 
@@ -53,9 +53,12 @@ node f s = 0x4e ∷ 0x44 ∷ f ∷ s
 abbrev pair : ℕ → ℕ → List ℕ → List ℕ
 pair p a s = head 2 1 p a (node 1 (node 1 (0x53 ∷ 0x50 ∷ 0 ∷ 1 ∷ 0 ∷ s)))
 
-pub every-number : (reading [] ≡ refused 1 0) × (reading (0 ∷ 0 ∷ []) ≡ refused 2 0) × (reading (head 0 0 0 0 []) ≡ refused 3 0) × (reading (head 1 0 0 0 (node 2 [])) ≡ refused 4 6)
-    × (reading (pair 1 0 (0x4c ∷ 0x50 ∷ 0 ∷ 1 ∷ 1 ∷ 1 ∷ [])) ≡ refused 5 17) × (reading (pair 1 0 (0x4c ∷ 0x50 ∷ 0 ∷ 1 ∷ 0 ∷ [])) ≡ refused 6 17)
-    × (reading (pair 1 0 (0x4c ∷ 0x50 ∷ 0 ∷ 1 ∷ 2 ∷ 0 ∷ 0 ∷ [])) ≡ refused 7 17) × (reading (pair 0 1 (0x41 ∷ 0x4c ∷ 0 ∷ 1 ∷ 0 ∷ [])) ≡ refused 8 17)
-    × (reading (head 1 0 0 0 (node 1 (0x45 ∷ 0x4e ∷ 0 ∷ []))) ≡ refused 9 11) × (reading (head 1 0 0 0 (node 0 [])) ≡ refused 10 9)
+abbrev path : ℕ → List ℕ → List ℕ
+path t s = pair 1 0 (0x4c ∷ 0x50 ∷ 0 ∷ t ∷ s)
+
+pub every-row : (reading [] ≡ refused 1 0) × (reading (0x48 ∷ 0x44 ∷ []) ≡ refused 1 0) × (reading (path 1 (1 ∷ [])) ≡ refused 1 17) × (reading (0 ∷ 0 ∷ []) ≡ refused 2 0)
+    × (reading (head 0 0 0 0 []) ≡ refused 3 0) × (reading (head 1 0 0 0 (node 2 [])) ≡ refused 4 6) × (reading (head 1 1 0 0 (node 1 (0x53 ∷ 0x50 ∷ 0 ∷ 0 ∷ 0 ∷ []))) ≡ refused 4 9)
+    × (reading (path 0 (0 ∷ [])) ≡ refused 4 17) × (reading (path 1 (1 ∷ 1 ∷ [])) ≡ refused 5 17) × (reading (path 1 (0 ∷ [])) ≡ refused 6 17) × (reading (path 1 (2 ∷ 0 ∷ 0 ∷ [])) ≡ refused 7 17)
+    × (reading (pair 0 1 (0x41 ∷ 0x4c ∷ 0 ∷ 1 ∷ 0 ∷ [])) ≡ refused 8 17) × (reading (head 1 0 0 0 (node 1 (0x45 ∷ 0x4e ∷ 0 ∷ []))) ≡ refused 9 11) × (reading (head 1 0 0 0 (node 0 [])) ≡ refused 10 9)
 unfolding reading book each opened below some count different walks lengthFits spanEnds lightpathEnds follows
-every-number = (refl, refl, refl, refl, refl, refl, refl, refl, refl, refl)
+every-row = (refl, refl, refl, refl, refl, refl, refl, refl, refl, refl, refl, refl, refl, refl)

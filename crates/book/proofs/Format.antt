@@ -85,12 +85,12 @@ book-only here s {m} {t} h e =
       }),
     )
 
--- (a) what is written reads back
+-- what is written reads back
 pub reading-back : (m : RouteBook) → wellFormed m ≡ true → reading (encode m) ≡ good m
 unfolding reading
 reading-back m h = ap (placed (encode m)) (book-back m (encode m) h)
 
--- (a) and nothing else reads as good
+-- and nothing else reads as good
 pub reading-only : (b : List ℕ) (m : RouteBook) → Bytes b → reading b ≡ good m → (encode m ≡ b) × (wellFormed m ≡ true)
 unfolding reading
 reading-only b m h e = go (book b b) refl e

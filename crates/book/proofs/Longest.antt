@@ -1,4 +1,4 @@
--- (d) THE LONGEST BOOK: a book that reads as good has at most 3,976 bytes, so a book of more than 4,096 has a fault within the first 4,096.
+-- THE LONGEST BOOK: a book that reads as good has at most 3,976 bytes, so a book of more than 4,096 has a fault within the first 4,096.
 -- What stands in those bytes stands in the whole book, and at least 120 of them are left where the row applies, more than any record has.
 use Prim.Native.Nat.{ℕ, _+_, _*_, _≤_}
 use mathlib.Core.Path.{_≡_, refl, sym, ap, _∙_, subst}
@@ -30,7 +30,7 @@ module _ {A : Type 0} {ok : List A → A → Bool} (enc : A → List ℕ) (w : �
       let z = and-inv {a = ok before a} h in
       omega (arith, width before a (z .0), widths (a ∷ before) l (z .1), length-append (enc a) (bytesOf enc l), mul-suc w (length l))
 
--- (d) the longest encoding
+-- the longest encoding
 pub longest : (m : RouteBook) → wellFormed m ≡ true → length (encode m) ≤ 3976
 unfolding encode
 longest m h =
@@ -124,7 +124,7 @@ enough c x h l = go (reading c) refl
         let q : p + length (s ++ x) ≡ length (c ++ x) = omega (arith, f .place, length-append s x, length-append c x) in
         e ∙ sym (fault-refused (c ++ x) n p (record { due = f .due; rest = s ++ x; stands = longer-stands x (f .stands); row = longer-row x l2 (f .row); place = q }))
 
--- (d) the first 4,096 bytes of a book, however long it is, read as the whole book does
+-- the first 4,096 bytes of a book, however long it is, read as the whole book does
 pub kept : (b : List ℕ) → Bytes b → reading (take 4096 b) ≡ reading b
 kept b h = go (leb (length b) 4096) refl
   where

@@ -1,4 +1,4 @@
--- (b) THE REFUSALS: reading refuses with the number n at the place p exactly if row n of the table applies there.
+-- THE REFUSALS: reading refuses with the number n at the place p exactly if row n of the table applies there.
 -- What the reader still does is a function of what is due, so each record that stands is one equation, and each refusal is traced back to its row.
 use Prim.Native.Nat.{ℕ, zero, suc, _-_}
 use mathlib.Core.Path.{_≡_, refl, sym, ap, _∙_, subst}
@@ -247,14 +247,14 @@ book-found b h e =
     let st5 = after-alternatives st4 in
     opened-found st5 _ opens-EN e4 λ w r5 q. past-found (after-ending st5 q)
 
--- (b) a fault is refused by its row, at its place
+-- a fault is refused by its row, at its place
 pub fault-refused : (b : List ℕ) (n p : ℕ) → Fault b n p → reading b ≡ refused n p
 unfolding reading
 fault-refused b n p f =
     let e : book b b ≡ bad n (f .rest) = blind-bad (book b b) (stood (f .stands) ∙ row-bad (f .row)) in
     rw e (ap (refused n) (omega (arith, f .place)))
 
--- (b) and nothing else is refused
+-- and nothing else is refused
 pub refused-fault : (b : List ℕ) (n p : ℕ) → Bytes b → reading b ≡ refused n p → Fault b n p
 unfolding reading
 refused-fault b n p h e = go (book b b) refl e

@@ -11,16 +11,16 @@ use Rattle.book.specs.declared.Reply.{Reply}
 use Rattle.book.specs.Book.{RouteBook, wellFormed}
 use Rattle.book.specs.Format.{encode, Reading, good, refused, reading}
 use Rattle.book.specs.Refusal.{Due, Row, row1-mark, row1-fields, row1-route, row2, row3, row4-node, row4-span, row4-lightpath, row5, row6, row7, row8, row9, row10, Fault}
-use Rattle.book.specs.Memory.{numberOf, placeOf, shown}
+use Rattle.book.specs.Memory.{bookOf, emptyBook, numberOf, placeOf, shown}
 use Rattle.book.proofs.Readers.{Bytes}
 use Rattle.book.proofs.Format.{reading-back, reading-only}
 use Rattle.book.proofs.Refusals.{refused-fault}
 
--- (c) no second reply meets the contract of `read`
+-- no second reply meets the contract of `read`
 pub one-reply : (b : List ℕ) (r q : Reply) → r ≡ shown (reading b) → q ≡ shown (reading b) → r ≡ q
 one-reply b r q e f = e ∙ sym f
 
--- (a) no book has a second encoding, and no bytes encode a second book
+-- no book has a second encoding, and no bytes encode a second book
 pub one-book : (m n : RouteBook) → wellFormed m ≡ true → wellFormed n ≡ true → encode m ≡ encode n → m ≡ n
 one-book m n h k e = let q : good m ≡ good n = sym (reading-back m h) ∙ ap reading e ∙ reading-back n k in cc
 
@@ -65,17 +65,24 @@ refused-within b n p h e =
     let r = row-number (f .row) in
     (r .0, r .1, omega (arith, f .place))
 
--- so the answer's number is 0 exactly for a good book
-pub number-good : (b : List ℕ) (r : Reply) → Bytes b → r ≡ shown (reading b) → numberOf (r .answer) ≡ 0 → GoodBook b
+-- so the answer's number is 0 exactly for a good book, which the struct then holds; and else the struct is all noughts
+pub record Served (b : List ℕ) (r : Reply) : Type 0 where
+  pub book : RouteBook
+  pub fits : wellFormed book ≡ true
+  pub written : encode book ≡ b
+  pub held : r .book ≡ bookOf book
+
+pub number-good : (b : List ℕ) (r : Reply) → Bytes b → r ≡ shown (reading b) → numberOf (r .answer) ≡ 0 → Served b r
 number-good b r h e z = go (reading b) refl e
   where
-    go : (g : Reading) → reading b ≡ g → r ≡ shown g → GoodBook b
-    go (good m) q w = let o = reading-only b m h q in record { book = m; fits = o .1; written = o .0 }
+    go : (g : Reading) → reading b ≡ g → r ≡ shown g → Served b r
+    go (good m) q w = let o = reading-only b m h q in record { book = m; fits = o .1; written = o .0; held = ap (λ (x : Reply). x .book) w }
     go (refused n p) q w = absurd (omega (arith, ap (λ (x : Reply). numberOf (x .answer)) w, refused-within b n p h q .0))
 
-pub number-bad : (b : List ℕ) (r : Reply) → Bytes b → r ≡ shown (reading b) → (numberOf (r .answer) ≡ 0 → ⊥) → Fault b (numberOf (r .answer)) (placeOf (r .answer))
+pub number-bad : (b : List ℕ) (r : Reply) → Bytes b → r ≡ shown (reading b) → (numberOf (r .answer) ≡ 0 → ⊥)
+    → Fault b (numberOf (r .answer)) (placeOf (r .answer)) × (r .book ≡ bookOf emptyBook)
 number-bad b r h e z = go (reading b) refl e
   where
-    go : (g : Reading) → reading b ≡ g → r ≡ shown g → Fault b (numberOf (r .answer)) (placeOf (r .answer))
+    go : (g : Reading) → reading b ≡ g → r ≡ shown g → Fault b (numberOf (r .answer)) (placeOf (r .answer)) × (r .book ≡ bookOf emptyBook)
     go (good m) q w = absurd (z (ap (λ (x : Reply). numberOf (x .answer)) w))
-    go (refused n p) q w = rw w (refused-fault b n p h q)
+    go (refused n p) q w = (rw w (refused-fault b n p h q), ap (λ (x : Reply). x .book) w)

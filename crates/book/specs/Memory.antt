@@ -1,8 +1,8 @@
 -- How a book is held in memory, and the reader's answer: docs/BOOK.md, section 7. Every array is its list and then noughts.
-use Prim.Native.Nat.{ℕ, _-_}
+use Prim.Native.Nat.{ℕ, _+_, _-_, _*_}
 use mathlib.Core.List.{List, [], _∷_, _++_, map}
 use lib.ListN.{length, replicate}
-use Rattle.book.specs.Book.{Span, Lightpath, Alternative, RouteBook, lightpathOf}
+use Rattle.book.specs.Book.{Span, Lightpath, Alternative, RouteBook, mostSpans, mostLightpaths, mostAlternatives, longestRoute, lightpathOf}
 use Rattle.book.specs.Format.{Reading, good, refused}
 use Rattle.book.specs.Bits.{stationSet, spanWord}
 use Rattle.book.specs.declared.Book.{Book}
@@ -18,6 +18,10 @@ unfoldable pub rows : ℕ → List (List ℕ) → List ℕ
 rows w [] = []
 rows w (r ∷ rs) = padded w r ++ rows w rs
 
+-- as many rows as a book can have routes
+abbrev pub mostRoutes : ℕ
+mostRoutes = mostLightpaths + mostAlternatives
+
 -- all routes in book order, as lists of span numbers: the lightpaths', then the alternatives'
 abbrev pub routesOf : List Lightpath → List Alternative → List (List ℕ)
 routesOf lps als = map (λ (p : Lightpath). p .route .spans) lps ++ map (λ (a : Alternative). a .route .spans) als
@@ -30,16 +34,16 @@ bookOf m = record {
   lightpaths = length (m .lightpaths);
   alternatives = length (m .alternatives);
   stations = stationSet (m .nodes);
-  left = padded 128 (map (λ (x : Span). x .left) (m .spans));
-  right = padded 128 (map (λ (x : Span). x .right) (m .spans));
-  limit = padded 128 (map (λ (x : Span). x .limit) (m .spans));
-  from = padded 96 (map (λ (p : Lightpath). p .ends .from) (m .lightpaths));
-  to = padded 96 (map (λ (p : Lightpath). p .ends .to) (m .lightpaths));
-  owner = padded 56 (map lightpathOf (m .alternatives));
-  len = padded 152 (map (λ (r : List ℕ). length r) (routesOf (m .lightpaths) (m .alternatives)));
-  route = padded 2432 (rows 16 (routesOf (m .lightpaths) (m .alternatives)));
-  low = padded 152 (map (spanWord 0) (routesOf (m .lightpaths) (m .alternatives)));
-  high = padded 152 (map (spanWord 1) (routesOf (m .lightpaths) (m .alternatives)));
+  left = padded mostSpans (map (λ (x : Span). x .left) (m .spans));
+  right = padded mostSpans (map (λ (x : Span). x .right) (m .spans));
+  limit = padded mostSpans (map (λ (x : Span). x .limit) (m .spans));
+  from = padded mostLightpaths (map (λ (p : Lightpath). p .ends .from) (m .lightpaths));
+  to = padded mostLightpaths (map (λ (p : Lightpath). p .ends .to) (m .lightpaths));
+  owner = padded mostAlternatives (map lightpathOf (m .alternatives));
+  len = padded mostRoutes (map (λ (r : List ℕ). length r) (routesOf (m .lightpaths) (m .alternatives)));
+  route = padded (longestRoute * mostRoutes) (rows longestRoute (routesOf (m .lightpaths) (m .alternatives)));
+  low = padded mostRoutes (map (spanWord 0) (routesOf (m .lightpaths) (m .alternatives)));
+  high = padded mostRoutes (map (spanWord 1) (routesOf (m .lightpaths) (m .alternatives)));
 }
 
 abbrev pub emptyBook : RouteBook

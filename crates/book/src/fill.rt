@@ -3,7 +3,6 @@ use crate::Book;
 use crate::Step;
 use crate::record;
 use crate::record::Tally;
-use crate::record::al_no;
 use crate::row;
 use crate::set;
 ghost use mathlib.Core.Path.{_≡_};
@@ -78,6 +77,7 @@ fn with_rows(b: Book, len: [u8; 152], route: [u8; 2432], low: [u64; 152], high: 
     f
 }
 
+// The ND records: their number and the set of stations.
 pub(crate) fn with_nodes(s: &[u8], at: usize, count: u8) -> Filled
     requires { ⌜ (at ≤ length (now s)) × (count ≤ 64) ⌝ }
     ensures { λ r. ⌜ Told (now (s .entry)) (each (λ before. nd) count [] (now (s .entry)) (drop at (now (s .entry)))) HoldsNodes (r .step) (r .book) ⌝ }
@@ -105,6 +105,7 @@ pub(crate) fn with_nodes(s: &[u8], at: usize, count: u8) -> Filled
     }
 }
 
+// The SP records: ends and limits.
 pub(crate) fn with_spans(s: &[u8], at: usize, count: u8, b: Book) -> Filled
     requires { ⌜ (at ≤ length (now s)) × (count ≤ 128) ⌝ }
     ensures { λ r. ⌜ ((ns : List Bool) → b ≡ bookOf (partly ns [] [] [])
@@ -139,6 +140,7 @@ pub(crate) fn with_spans(s: &[u8], at: usize, count: u8, b: Book) -> Filled
     }
 }
 
+// The LP records: ends, and routes in the first rows.
 pub(crate) fn with_lightpaths(s: &[u8], at: usize, count: u8, b: Book) -> Filled
     requires { ⌜ (at ≤ length (now s)) × (count ≤ 96) × SpansHeld b ⌝ }
     ensures { λ r. ⌜ ((ns : List Bool) (sps : List Span) → b ≡ bookOf (partly ns sps [] [])
@@ -179,6 +181,7 @@ pub(crate) fn with_lightpaths(s: &[u8], at: usize, count: u8, b: Book) -> Filled
     }
 }
 
+// The AL records: their lightpaths, and routes in the rows after those of the LP records.
 pub(crate) fn with_alternatives(s: &[u8], at: usize, count: u8, b: Book) -> Filled
     requires { ⌜ (at ≤ length (now s)) × (count ≤ 56) × LightpathsHeld b ⌝ }
     ensures { λ r. ⌜ ((ns : List Bool) (sps : List Span) (lps : List Lightpath) → b ≡ bookOf (partly ns sps lps []) → every (λ before. lightpathFits ns sps) [] lps ≡ true
@@ -196,7 +199,7 @@ pub(crate) fn with_alternatives(s: &[u8], at: usize, count: u8, b: Book) -> Fill
     let mut k = 0;
     while k < n {
         let d = &s[place..];
-        let no = al_no(d, tally, b.spans, &b.from, &b.to, &b.left, &b.right);
+        let no = record::al_no(d, tally, b.spans, &b.from, &b.to, &b.left, &b.right);
         if no != 0 {
             return stopped(no, place, b);
         }

@@ -50,6 +50,7 @@ pub(crate) enum Step {
     Bad(u8, usize),
 }
 
+// A refusal: its number and place, and a book of nothing.
 fn refused(no: u8, place: usize) -> Reply
     ensures { λ r. ⌜ r ≡ refusedReply no place ⌝ }
 {

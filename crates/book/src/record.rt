@@ -1,5 +1,5 @@
-// The records of a book, one at a time: each function is given the bytes from the record's first on, and answers with the number of the
-// record's first fault, or 0.
+// The records of a book, one at a time. Each function whose name ends in _no is given the bytes from the record's first on, and answers with
+// the number of refusal of the record's first fault, or 0 where it has none.
 use crate::set;
 use crate::walk;
 ghost use mathlib.Core.Path.{_≡_};
@@ -54,7 +54,7 @@ fn counts_fit(nodes: u8, spans: u8, lightpaths: u8, alternatives: u8) -> bool
 pub(crate) fn hd_no(d: &[u8]) -> u8
     ensures { λ r. ⌜ Numbered r hd (now (d .entry)) (tab (λ i. getD (now (d .entry)) (2 + i) 0) 4) 6 ⌝ }
 {
-    let no = opened_no(d, 0x48, 0x44, 4);
+    let no = opened_no(d, b'H', b'D', 4);
     if no != 0 {
         return no;
     }
@@ -68,7 +68,7 @@ pub(crate) fn hd_no(d: &[u8]) -> u8
 pub(crate) fn nd_no(d: &[u8]) -> u8
     ensures { λ r. ⌜ Numbered r nd (now (d .entry)) (eqb (getD (now (d .entry)) 2 0) 1) 3 ⌝ }
 {
-    let no = opened_no(d, 0x4e, 0x44, 1);
+    let no = opened_no(d, b'N', b'D', 1);
     if no != 0 {
         return no;
     }
@@ -91,14 +91,14 @@ fn span_ends(nodes: u8, a: u8, b: u8) -> bool
 pub(crate) fn sp_no(d: &[u8], nodes: u8) -> u8
     ensures { λ r. ⌜ Numbered r (sp nodes) (now (d .entry)) (spanIn (now (d .entry))) 5 ⌝ }
 {
-    let no = opened_no(d, 0x53, 0x50, 3);
+    let no = opened_no(d, b'S', b'P', 3);
     if no != 0 {
         return no;
     }
     if span_ends(nodes, d[2], d[3]) { 0 } else { 4 }
 }
 
-// The spans of a route of `len` spans between two nodes, at the head of d: length, span numbers, walk.
+// A route of `len` spans between two nodes, at the head of d: its length, whether its bytes are there, its span numbers, its walk.
 fn route_no<'a>(
     d: &[u8],
     len: u8,
@@ -163,7 +163,7 @@ pub(crate) fn lp_no<'a>(
     requires { ⌜ EndsLow (now left) (now right) × (spans ≤ 128) × (nodes ≤ 64) ⌝ }
     ensures { λ r. ⌜ LpNo r (now (d .entry)) nodes stations spans (now (left .entry)) (now (right .entry)) ⌝ }
 {
-    let no = opened_no(d, 0x4c, 0x50, 3);
+    let no = opened_no(d, b'L', b'P', 3);
     if no != 0 {
         return no;
     }
@@ -176,6 +176,7 @@ pub(crate) fn lp_no<'a>(
     route_no(&d[5..], len, from, to, spans, left, right)
 }
 
+// 1 where the test holds, else 0.
 fn one_if(t: bool) -> u8
     ensures { λ r. ⌜ (r ≡ cond t 1 0) × (r ≤ 1) ⌝ }
 {
@@ -255,7 +256,7 @@ pub(crate) fn al_no<'a>(
     requires { ⌜ EndsLow (now left) (now right) × (spans ≤ 128) × OwnersLow (now from) (now to) × (tally .lightpaths ≤ 96) ⌝ }
     ensures { λ r. ⌜ AlNo r (now (d .entry)) (tally .lightpaths) (tally .last) (tally .same) (tally .different) spans (now (from .entry)) (now (to .entry)) (now (left .entry)) (now (right .entry)) ⌝ }
 {
-    let no = opened_no(d, 0x41, 0x4c, 2);
+    let no = opened_no(d, b'A', b'L', 2);
     if no != 0 {
         return no;
     }
@@ -273,5 +274,5 @@ pub(crate) fn al_no<'a>(
 pub(crate) fn en_no(d: &[u8]) -> u8
     ensures { λ r. ⌜ Numbered r (opened EN 0) (now (d .entry)) [] 2 ⌝ }
 {
-    opened_no(d, 0x45, 0x4e, 0)
+    opened_no(d, b'E', b'N', 0)
 }

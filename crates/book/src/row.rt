@@ -6,11 +6,13 @@ ghost use lib.ListN.{length};
 ghost use lib.Seq.{paste};
 ghost use Rattle.book.specs.Inside.{wordsOf, wordsInto};
 
+// Spans 0 to 63, and 64 to 127.
 pub(crate) struct Words {
     pub low: u64,
     pub high: u64,
 }
 
+// One span more.
 fn with_span(w: Words, x: u8) -> Words
     ensures { λ r. ⌜ r ≡ wordsInto (w .low) (w .high) x ⌝ }
 {

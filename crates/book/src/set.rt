@@ -3,6 +3,7 @@ ghost use mathlib.Core.Path.{_≡_};
 ghost use Prim.Native.Nat.{_<_};
 ghost use Rattle.book.specs.Bits.{has, put, putIf};
 
+// Whether i is in x.
 pub(crate) fn has(x: u64, i: u8) -> bool
     requires { ⌜ i < 64 ⌝ }
     ensures { λ r. ⌜ r ≡ has x i ⌝ }
@@ -10,6 +11,7 @@ pub(crate) fn has(x: u64, i: u8) -> bool
     (x >> i) & 1 == 1
 }
 
+// x with i put in.
 pub(crate) fn put(x: u64, i: u8) -> u64
     requires { ⌜ i < 64 ⌝ }
     ensures { λ r. ⌜ r ≡ put x i ⌝ }
@@ -17,6 +19,7 @@ pub(crate) fn put(x: u64, i: u8) -> u64
     x | 1u64 << i
 }
 
+// x with i put in where the test holds.
 pub(crate) fn put_if(t: bool, x: u64, i: u8) -> u64
     requires { ⌜ i < 64 ⌝ }
     ensures { λ r. ⌜ r ≡ putIf t x i ⌝ }

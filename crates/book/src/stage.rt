@@ -40,6 +40,7 @@ fn from_end(s: &[u8], at: usize, b: Book) -> Filled
     }
 }
 
+// The AL records are due.
 fn from_alternatives(s: &[u8], at: usize, c: Counts, b: Book) -> Filled
     requires { ⌜ (at ≤ length (now s)) × (c .alternatives ≤ 56) × LightpathsRead b ⌝ }
     ensures { λ r. ⌜ ((ns : List Bool) (sps : List Span) (lps : List Lightpath) → b ≡ bookOf (partly ns sps lps []) → every (λ before. lightpathFits ns sps) [] lps ≡ true
@@ -54,6 +55,7 @@ fn from_alternatives(s: &[u8], at: usize, c: Counts, b: Book) -> Filled
     from_end(s, next, book)
 }
 
+// The LP records are due.
 fn from_lightpaths(s: &[u8], at: usize, c: Counts, b: Book) -> Filled
     requires { ⌜ (at ≤ length (now s)) × (below 256 (now s) ≡ true) × (c .lightpaths ≤ 96) × (c .alternatives ≤ 56) × SpansRead b ⌝ }
     ensures { λ r. ⌜ ((ns : List Bool) (sps : List Span) → b ≡ bookOf (partly ns sps [] [])
@@ -68,6 +70,7 @@ fn from_lightpaths(s: &[u8], at: usize, c: Counts, b: Book) -> Filled
     from_alternatives(s, next, c, book)
 }
 
+// The SP records are due.
 fn from_spans(s: &[u8], at: usize, c: Counts, b: Book) -> Filled
     requires { ⌜ (at ≤ length (now s)) × (below 256 (now s) ≡ true) × (c .spans ≤ 128) × (c .lightpaths ≤ 96) × (c .alternatives ≤ 56) × NodesRead b ⌝ }
     ensures { λ r. ⌜ ((ns : List Bool) → b ≡ bookOf (partly ns [] [] [])

@@ -7,6 +7,7 @@ ghost use Rattle.book.specs.Bits.{put};
 ghost use Rattle.book.specs.Book.{below};
 ghost use Rattle.book.specs.Inside.{hopOf, walksIn, EndsLow};
 
+// What one step of a walk gives: the node that it leads to, or that it leads nowhere.
 pub(crate) enum Hop {
     To(u8),
     Off,
