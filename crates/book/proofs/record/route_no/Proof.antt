@@ -30,7 +30,7 @@ returns-4 c = no-high _ _ _ _ _ _ _ (length-right _ (omega arith) (omega arith))
 walk-ok-requires : tie.Need-walk-ok-requires
 walk-ok-requires c κs =
     let s = c .before .before .before .before .before .before .before in
-    (s .pre .0, below-wider _ 128 _ (s .pre .1) (sym (c .before .all-below .ensures) ∙ not-false _ (c .if4 .left)), s .pre .2, s .pre .3)
+    (s .pre .0, below-wider _ 128 _ (s .pre .1) (sym (c .before .all-below .ensures) ∙ not-false _ (c .if4 .left)), search needs, search needs)
 
 returns-5 : tie.Need-returns-5
 returns-5 c =
