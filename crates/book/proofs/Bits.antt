@@ -11,7 +11,7 @@ use lib.Pow.{shr-shr, shl-exact}
 use lib.Bits.{bitAnd, bitOr, or-shr, or-step, and-mask}
 use Rattle.book.specs.Bits.{bit, has, put}
 
-pub bit-lt : (x i : ℕ) → bit x i < 2
+bit-lt : (x i : ℕ) → bit x i < 2
 unfolding bit
 bit-lt x i = omega arith
 

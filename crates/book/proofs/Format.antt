@@ -18,7 +18,7 @@ unfolding every
 every-true before [] = refl
 every-true before (a ∷ l) = every-true (a ∷ before) l
 
-pub book-back : (m : RouteBook) (here : List ℕ) → wellFormed m ≡ true → book here (encode m) ≡ got m []
+book-back : (m : RouteBook) (here : List ℕ) → wellFormed m ≡ true → book here (encode m) ≡ got m []
 unfolding book encode
 book-back m here h =
     let ns = m .nodes in
@@ -60,7 +60,7 @@ en-only x b s v e =
     let y = need-got (atEnd (z .1)) 9 (z .1) (z .1) (λ c u. got x u) (z .3) in
     (opened-only EN 0 s s (z .2) .0 ∙ ap (λ (l : List ℕ). enBytes ++ l) (empty (z .1) (y .0)), carried (λ a u. x ≡ a) (y .1) refl)
 
-pub book-only : (here s : List ℕ) {m : RouteBook} {t : List ℕ} → Bytes s → book here s ≡ got m t → (encode m ≡ s) × (wellFormed m ≡ true)
+book-only : (here s : List ℕ) {m : RouteBook} {t : List ℕ} → Bytes s → book here s ≡ got m t → (encode m ≡ s) × (wellFormed m ≡ true)
 unfolding book encode
 book-only here s {m} {t} h e =
     hd-then s _ h e λ c r0 p0 q0 b0 e0.

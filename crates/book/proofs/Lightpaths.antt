@@ -28,14 +28,14 @@ column-at n f xs d z k = padded-at n (map f xs) k ∙ ap (getD (map f xs) k) (sy
 
 -- the arrays of a book, and what it says
 module _ (ns : List Bool) (sps : List Span) (lps : List Lightpath) (als : List Alternative) {b : Book} (e : b ≡ bookOf (partly ns sps lps als)) where
-  pub spans-in : SpansIn sps (b .spans) (b .left) (b .right)
+  spans-in : SpansIn sps (b .spans) (b .left) (b .right)
   spans-in = rw e (record {
     counted = refl;
     is-left = column-at 128 (λ (x : Span). x .left) sps _ refl;
     is-right = column-at 128 (λ (x : Span). x .right) sps _ refl;
   })
 
-  pub ends-in : EndsIn (map endsOf lps) (b .lightpaths) (b .from) (b .to)
+  ends-in : EndsIn (map endsOf lps) (b .lightpaths) (b .from) (b .to)
   ends-in = rw e (record {
     counted = sym (length-map lps endsOf);
     is-from = λ k. rw (← map-map (λ (x : Ends). x .from) endsOf lps) (column-at 96 (λ (x : Ends). x .from) (map endsOf lps) _ refl k);
@@ -49,7 +49,7 @@ route-is s at w len e = rw (getD-drop at s w 0, e, drop-drop (suc w) at s)
 abbrev pub routeOf : Lightpath → List ℕ
 routeOf p = p .route .spans
 
-abbrev pub altRoute : Alternative → List ℕ
+abbrev altRoute : Alternative → List ℕ
 altRoute a = a .route .spans
 
 -- one route more, behind those of the records before
@@ -61,7 +61,7 @@ routes-long f rs before = length-append rs (map f (reverse before)) ∙ ap (λ (
 
 -- the row of a record whose length stands w bytes on, and its route after that
 module _ {A : Type 0} (f : A → List ℕ) (rs : List (List ℕ)) (before : List A) (a : A) {len route low high : List ℕ} (h : RowsIn (rs ++ map f (reverse before)) len route low high) where
-  pub record-row : (k l : ℕ) (r : List ℕ) → length rs + length before ≡ k → k < 152 → f a ≡ r → length r ≡ l → l ≤ 16
+  record-row : (k l : ℕ) (r : List ℕ) → length rs + length before ≡ k → k < 152 → f a ≡ r → length r ≡ l → l ≤ 16
       → RowsIn (rs ++ map f (reverse (a ∷ before))) (set len k l) (paste route (16 * k) r (length r)) (set low k (spanWord 0 r)) (set high k (spanWord 1 r))
   record-row k l r e few is long short =
       subst (λ (x : List (List ℕ)). RowsIn x (set len k l) (paste route (16 * k) r (length r)) (set low k (spanWord 0 r)) (set high k (spanWord 1 r))) (ap (λ (x : List ℕ). (rs ++ map f (reverse before)) ++ x ∷ []) (sym is) ∙ routes-more f rs before a)

@@ -46,7 +46,7 @@ padded-at n xs k = go (decLt k (length xs))
         ∙ rest (k - length xs) (decLt (k - length xs) (n - length xs)) ∙ sym (List·getD-eq-default xs 0 {n = k} (omega arith))
 
 -- noughts at the end change nothing
-pub padded-noughts : (n k : ℕ) (xs : List ℕ) → length xs + k ≤ n → padded n (xs ++ replicate k 0) ≡ padded n xs
+padded-noughts : (n k : ℕ) (xs : List ℕ) → length xs + k ≤ n → padded n (xs ++ replicate k 0) ≡ padded n xs
 unfolding padded
 padded-noughts n k xs h =
     let e : n - length (xs ++ replicate k 0) ≡ n - length xs - k = omega (arith, length-append xs (replicate k 0), length-replicate {A = ℕ} k 0) in
@@ -54,7 +54,7 @@ padded-noughts n k xs h =
     let g : _≡_ {A = List ℕ} (replicate k 0 ++ replicate (n - length xs - k) 0) (replicate (k + (n - length xs - k)) 0) = replicate-append-replicate k (n - length xs - k) 0 in
     rw (e, append-assoc xs (replicate k 0) (replicate (n - length xs - k) 0), g, f)
 
-pub rows-snoc : (w : ℕ) (rs : List (List ℕ)) (r : List ℕ) → rows w (rs ++ r ∷ []) ≡ rows w rs ++ padded w r
+rows-snoc : (w : ℕ) (rs : List (List ℕ)) (r : List ℕ) → rows w (rs ++ r ∷ []) ≡ rows w rs ++ padded w r
 unfolding rows
 rows-snoc w [] r = append-nil (padded w r)
 rows-snoc w (q ∷ rs) r = ap (λ (l : List ℕ). padded w q ++ l) (rows-snoc w rs r) ∙ sym (append-assoc (padded w q) (rows w rs) (padded w r))

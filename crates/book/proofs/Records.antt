@@ -67,7 +67,7 @@ module _ (sps : List Span) (e : Ends) where
       let b = and-inv {a = below (length sps) (r .spans)} (a .1) in
       rw (a .0, fields-back (length (r .spans)) (r .spans) here t refl, b .0, b .1)
 
-  pub route-only : (len : ℕ) (here s : List ℕ) {r : Route} {t : List ℕ} → route sps e len here s ≡ got r t
+  route-only : (len : ℕ) (here s : List ℕ) {r : Route} {t : List ℕ} → route sps e len here s ≡ got r t
       → (s ≡ r .spans ++ t) × (len ≡ length (r .spans)) × (routeFits sps e r ≡ true)
   route-only len here s q =
       let a = need-got (lengthFits len) 6 here s _ q in

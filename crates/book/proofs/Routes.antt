@@ -109,14 +109,14 @@ module _ {A : Type 0} (sps : List Span) (m : Mark) (k n : ℕ) (test : List ℕ 
   Routed r = Numbered r one d (make v (record { spans = take (len v) (drop (2 + k) d) })) (2 + k + len v)
 
   module _ {r : ℕ} (o : Opened m k d r) where
-    pub routed-off : (r ≡ 0 → ⊥) → Routed r
+    routed-off : (r ≡ 0 → ⊥) → Routed r
     routed-off h = numbered-bad r h (λ here. rw (off o h here))
 
     module _ (z : r ≡ 0) where
-      pub routed-fails : (n ≡ 0 → ⊥) → test v ≡ false → Routed n
+      routed-fails : (n ≡ 0 → ⊥) → test v ≡ false → Routed n
       routed-fails h e = numbered-bad n h (λ here. rw (on o z here, e))
 
-      pub routed-on : test v ≡ true → {q : ℕ} → Numbered q (route sps (ends v) (len v)) (drop (2 + k) d) (record { spans = take (len v) (drop (2 + k) d) }) (len v) → Routed q
+      routed-on : test v ≡ true → {q : ℕ} → Numbered q (route sps (ends v) (len v)) (drop (2 + k) d) (record { spans = take (len v) (drop (2 + k) d) }) (len v) → Routed q
       routed-on e {q} w = record {
         told = λ here. rw (on o z here, e, w .told here) (cond-then (eqb q 0) _ _ q here _ ∙ rw (drop-drop (len v) (2 + k) d));
         whole = λ y. omega (arith, w .whole y, length-drop (2 + k) d, o .whole z);

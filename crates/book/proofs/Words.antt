@@ -41,7 +41,7 @@ into-has w x i [] l = or-none (has x i)
 into-has w x i (s ∷ r) l = into-has w (putIf (eqb (s / 64) w) x (s % 64)) i r l ∙ rw (put-span w x s i l) (or-turn (eqb (64 * w + i) s) (has x i) (among (64 * w + i) r))
 
 -- THE LAW
-pub word-has : (w i : ℕ) (r : List ℕ) → i < 64 → has (spanWord w r) i ≡ among (64 * w + i) r
+word-has : (w i : ℕ) (r : List ℕ) → i < 64 → has (spanWord w r) i ≡ among (64 * w + i) r
 unfolding has
 word-has w i r l = into-has w 0 i r l ∙ rw (bit-of-zero i)
 

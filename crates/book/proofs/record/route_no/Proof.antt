@@ -10,10 +10,10 @@ use Rattle.book.proofs.record.route_no.Statement.{statement}
 use Rattle.book.proofs.record.route_no.Tie as tie
 
 returns : tie.Need-returns
-returns c = no-length _ _ _ _ _ _ _ (length-low _ (c .if1 .taken))
+returns c = no-length _ _ _ _ _ _ _ (length-low (c .before .before .args .len) (omega arith))
 
 returns-2 : tie.Need-returns-2
-returns-2 c = no-length _ _ _ _ _ _ _ (length-high _ (omega arith) (c .if2 .taken))
+returns-2 c = no-length _ _ _ _ _ _ _ (length-high (c .before .before .before .args .len) (omega arith) (omega arith))
 
 returns-3 : tie.Need-returns-3
 returns-3 c = no-torn _ _ _ _ _ _ _ (length-right _ (omega arith) (omega arith)) (c .if3 .taken)

@@ -33,10 +33,16 @@ stopped-requires-2 : tie.Need-stopped-requires-2
 stopped-requires-2 c κs = search needs
 
 returns-2 : tie.Need-returns-2
-returns-2 c = let x = c .before .before .before .before .before .before .args in let s = now (x .s) in rw (c .stopped2 .ensures) (λ m e. end-more s (x .at) (c .before .before .before .before .before .before .pre) (rw (part s (x .at)) at (c .before .before .before .en-no .ensures)) m (c .before .before .if1 .left) (c .before .if2 .taken))
+returns-2 c =
+    let x = c .before .before .before .before .before .before .args in
+    let s = now (x .s) in
+    let pre = c .before .before .before .before .before .before .pre in
+    let no = rw (part s (x .at)) at (c .before .before .before .en-no .ensures) in
+    let on = c .before .before .if1 .left in
+    rw (c .stopped2 .ensures) (λ m e. end-more s (x .at) pre no m on (omega (arith, end-fits s (x .at) pre no m on, c .before .if2 .taken)))
 
 returns-3 : tie.Need-returns-3
-returns-3 c = let x = c .before .before .before .before .before .args in let s = now (x .s) in λ m e. end-good s (x .at) (c .before .before .before .before .before .pre) (rw (part s (x .at)) at (c .before .before .en-no .ensures)) m (c .before .if1 .left) (c .if2 .left) e
+returns-3 c = let x = c .before .before .before .before .before .args in let s = now (x .s) in λ m e. end-good s (x .at) (c .before .before .before .before .before .pre) (rw (part s (x .at)) at (c .before .before .en-no .ensures)) m (c .before .if1 .left) (omega (arith, c .if2 .left)) e
 
 pub from-end-spec : {M : Type 1} → statement M
 from-end-spec =

@@ -2,7 +2,9 @@
 use borrow.Author.Needs.{needs}
 use mathlib.Core.Path.{_≡_, refl, sym, _∙_}
 use Prim.Native.Nat.{_-_, _≤_, zero-le}
+use native.Mathlib.Omega.{arith}
 use lib.ListN.{length, drop}
+use denote.Ref.{now}
 use Rattle.book.specs.Book.{below}
 use Rattle.book.proofs.Walking.{below-more, below-stop, below-none}
 use Rattle.book.proofs.walk.all_below.Statement.{statement}
@@ -21,7 +23,7 @@ shared-slice-read-if1 : tie.Need-shared-slice-read-if1 Inv-loop μ-loop
 shared-slice-read-if1 c = search needs
 
 returns : tie.Need-returns Inv-loop μ-loop
-returns c = sym (c .before .before .before .loop .inv .1 ∙ below-stop _ _ (c .before .before .before .loop .j) (c .before .before .loop-test .taken) (c .if1 .taken))
+returns c = sym (c .before .before .before .loop .inv .1 ∙ below-stop (c .before .before .before .before .args .n) (now (c .before .before .before .before .args .route)) (c .before .before .before .loop .j) (c .before .before .loop-test .taken) (omega arith))
 
 add-j : tie.Need-add-j Inv-loop μ-loop
 add-j c = search needs
@@ -30,7 +32,7 @@ loop-less : tie.Need-loop-less Inv-loop μ-loop
 loop-less c = search needs
 
 loop-again : tie.Need-loop-again Inv-loop μ-loop
-loop-again c = (search needs, c .before .before .before .loop .inv .1 ∙ below-more _ _ (c .before .before .before .loop .j) (c .before .before .loop-test .taken) (c .if1 .left))
+loop-again c = (search needs, c .before .before .before .loop .inv .1 ∙ below-more (c .before .before .before .before .args .n) (now (c .before .before .before .before .args .route)) (c .before .before .before .loop .j) (c .before .before .loop-test .taken) (omega arith))
 
 returns-2 : tie.Need-returns-2 Inv-loop μ-loop
 returns-2 c = sym (c .before .loop .inv .1 ∙ below-none _ _ (c .before .loop .j) (c .loop-test .left))
