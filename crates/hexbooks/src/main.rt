@@ -1,6 +1,6 @@
 // Reads route books as text from standard input, one a line, and prints for each what `book::read` answers: `GOOD nodes spans lightpaths
-// alternatives` or `BAD number place`. A line has the book's bytes, two lower-case hex digits each, with one blank between; `.` alone is the empty
-// book. A line that starts with `#` and an empty line print nothing, and any other line prints `?`. Input past 262,144 bytes is not read.
+// alternatives` or `BAD number place`. A line has the book's bytes, at most 4,096, two lower-case hex digits each, with one blank between; `.` alone
+// is the empty book. A line that starts with `#` and an empty line print nothing, and any other line prints `?`. Input past 262,144 bytes is not read.
 use book::Answer;
 use libc::STDIN_FILENO;
 use libc::STDOUT_FILENO;
