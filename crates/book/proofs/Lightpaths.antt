@@ -49,7 +49,7 @@ route-is s at w len e = rw (getD-drop at s w 0, e, drop-drop (suc w) at s)
 abbrev pub routeOf : Lightpath → List ℕ
 routeOf p = p .route .spans
 
-abbrev altRoute : Alternative → List ℕ
+abbrev pub altRoute : Alternative → List ℕ
 altRoute a = a .route .spans
 
 -- one route more, behind those of the records before

@@ -1,18 +1,19 @@
 -- THE LONGEST BOOK: a book that reads as good has at most 3,976 bytes, so a book of more than 4,096 has a fault within the first 4,096.
 -- What stands in those bytes stands in the whole book, and at least 120 of them are left where the row applies, more than any record has.
-use Prim.Native.Nat.{ℕ, _+_, _*_, _≤_}
+use Prim.Native.Nat.{ℕ, zero, suc, _+_, _*_, _≤_}
 use mathlib.Core.Path.{_≡_, refl, sym, ap, _∙_, subst}
 use mathlib.Core.List.{List, [], _∷_, _++_, map, append-assoc}
 use mathlib.Core.Bool.{Bool, true, false}
 use native.Mathlib.Omega.{arith}
 use native.Mathlib.Nat.{mul-suc}
-use lib.ListN.{length, take, drop, length-append, take-append-drop, List·getD-append}
+use lib.ListN.{length, getD, take, drop, length-append, take-append-drop, List·getD-append}
 use lib.Seq.{take-all, length-take-le}
 use lib.Dec.{leb, ltb}
 use borrow.Author.Tests.{leb-true, leb-false}
 use Rattle.book.specs.Reader.{Mark, isMark}
-use Rattle.book.specs.Book.{Span, Ends, RouteBook, below, every, endsOf, wellFormed}
+use Rattle.book.specs.Book.{Span, Ends, Lightpath, Alternative, RouteBook, below, every, endsOf, wellFormed}
 use Rattle.book.specs.Format.{bytesOf, ndBytes, spBytes, lpBytes, alBytes, encode, Reading, good, refused, reading}
+use Rattle.book.specs.Memory.{routesOf}
 use Rattle.book.specs.Refusal.{Due, Stands, at-head, after-head, after-node, after-nodes, after-span, after-spans, after-lightpath, after-lightpaths, after-alternative, after-alternatives, after-ending, Opens, opens-HD, opens-ND, opens-SP, opens-LP, opens-AL, opens-EN, RouteDue, in-LP, in-AL, Row, row1-mark, row1-fields, row1-route, row2, row3, row4-node, row4-span, row4-lightpath, row5, row6, row7, row8, row9, row10}
 use Rattle.book.proofs.Tests.{and-inv, and-both}
 use Rattle.book.proofs.Parts.{parts}
@@ -23,12 +24,35 @@ use Rattle.book.proofs.Refusals.{fault-refused, refused-fault}
 
 -- records of at most w bytes each
 module _ {A : Type 0} {ok : List A → A → Bool} (enc : A → List ℕ) (w : ℕ) (width : (before : List A) (a : A) → ok before a ≡ true → length (enc a) ≤ w) where
-  widths : (before l : List A) → every ok before l ≡ true → length (bytesOf enc l) ≤ w * length l
+  pub widths : (before l : List A) → every ok before l ≡ true → length (bytesOf enc l) ≤ w * length l
   unfolding every bytesOf
   widths before [] h = omega arith
   widths before (a ∷ l) h =
       let z = and-inv {a = ok before a} h in
       omega (arith, width before a (z .0), widths (a ∷ before) l (z .1), length-append (enc a) (bytesOf enc l), mul-suc w (length l))
+
+-- routes of at most 16 spans each, of the records of a kind, and of a whole book
+module _ {A : Type 0} {ok : List A → A → Bool} (f : A → List ℕ) (short : (before : List A) (a : A) → ok before a ≡ true → length (f a) ≤ 16) where
+  all-short : (before l : List A) → every ok before l ≡ true → (i : ℕ) → length (getD (map f l) i []) ≤ 16
+  unfolding every
+  all-short before [] h i = omega arith
+  all-short before (a ∷ l) h zero = short before a (and-inv {a = ok before a} h .0)
+  all-short before (a ∷ l) h (suc i) = all-short (a ∷ before) l (and-inv {a = ok before a} h .1) i
+
+both-short : (xs ys : List (List ℕ)) → ((i : ℕ) → length (getD xs i []) ≤ 16) → ((i : ℕ) → length (getD ys i []) ≤ 16) → (i : ℕ) → length (getD (xs ++ ys) i []) ≤ 16
+both-short [] ys p q i = q i
+both-short (x ∷ xs) ys p q zero = p 0
+both-short (x ∷ xs) ys p q (suc i) = both-short xs ys (λ j. p (suc j)) q i
+
+pub routes-short : (m : RouteBook) → wellFormed m ≡ true → (i : ℕ) → length (getD (routesOf (m .lightpaths) (m .alternatives)) i []) ≤ 16
+routes-short m h =
+    let ns = m .nodes in
+    let sps = m .spans in
+    let es = map endsOf (m .lightpaths) in
+    let p = parts m h in
+    both-short (map (λ (x : Lightpath). x .route .spans) (m .lightpaths)) (map (λ (x : Alternative). x .route .spans) (m .alternatives))
+    (all-short (λ (x : Lightpath). x .route .spans) (λ before x q. omega (arith, lp-width ns sps x q)) [] (m .lightpaths) (p .lightpaths))
+    (all-short (λ (x : Alternative). x .route .spans) (λ before x q. omega (arith, al-width sps es before x q)) [] (m .alternatives) (p .alternatives))
 
 -- the longest encoding
 pub longest : (m : RouteBook) → wellFormed m ≡ true → length (encode m) ≤ 3976

@@ -65,6 +65,20 @@ noughts-after m n h =
     let e : m ≡ n + (m - n) = omega arith in
     ap (λ (i : ℕ). drop n (replicate i 0)) e ∙ ap (drop n) (sym (replicate-append-replicate n (m - n) 0)) ∙ drop-at (replicate n 0) (replicate (m - n) 0) n (length-replicate {A = ℕ} n 0)
 
+-- past the list's end there are noughts
+noughts-first : (m w : ℕ) → w ≤ m → take w (replicate m 0) ≡ replicate {A = ℕ} w 0
+noughts-first m w h =
+    let e : m ≡ w + (m - w) = omega arith in
+    ap (λ (i : ℕ). take w (replicate i 0)) e ∙ ap (take w) (sym (replicate-append-replicate w (m - w) 0)) ∙ take-at (replicate w 0) (replicate (m - w) 0) w (length-replicate {A = ℕ} w 0)
+
+pub padded-past : (n w a : ℕ) (xs : List ℕ) → length xs ≤ a → a + w ≤ n → take w (drop a (padded n xs)) ≡ replicate w 0
+unfolding padded
+padded-past n w a xs h l =
+    let e : a ≡ length xs + (a - length xs) = omega arith in
+    ap (λ (i : ℕ). take w (drop i (xs ++ replicate (n - length xs) 0))) e
+    ∙ ap (take w) (drop-append-add xs (replicate (n - length xs) 0) (a - length xs) ∙ noughts-after (n - length xs) (a - length xs) (omega arith))
+    ∙ noughts-first (n - length xs - (a - length xs)) w (omega arith)
+
 -- a list is copied in after the list that is there
 padded-paste : (m k n : ℕ) (xs s : List ℕ) → length xs ≡ k → n ≤ length s → k + n ≤ m → paste (padded m xs) k s n ≡ padded m (xs ++ take n s)
 unfolding padded

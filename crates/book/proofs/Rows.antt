@@ -1,14 +1,16 @@
--- The rows of a book: after one more route every array holds one more, and the words hold its spans.
+-- The rows of a book: after one more route every array holds one more, and the words hold its spans; and each row is read back as it was put in.
 -- LP and AL records both end with a route, so both loops cite the one law.
-use Prim.Native.Nat.{ℕ, _+_, _*_, _≤_, _<_}
+use Prim.Native.Nat.{ℕ, zero, suc, _+_, _-_, _*_, _≤_, _<_}
 use mathlib.Core.Path.{_≡_, refl, sym, ap, _∙_}
-use mathlib.Core.List.{List, [], _∷_, _++_, map, map-append}
+use mathlib.Core.List.{List, [], _∷_, _++_, map, map-append, append-assoc}
 use native.Mathlib.Omega.{arith}
-use lib.ListN.{length, set, replicate, length-map, length-append}
-use lib.Seq.{paste, take-all}
+use native.Mathlib.Decide.{decLt}
+use native.Mathlib.Nat.{mul-zero, mul-suc, mul-le-mul-left}
+use lib.ListN.{length, getD, take, drop, set, replicate, length-map, length-append, length-replicate, List·getD-eq-default}
+use lib.Seq.{paste, take-all, take-at, take-take, take-append-seam, drop-append-add}
 use Rattle.book.specs.Bits.{spanWord}
 use Rattle.book.specs.Memory.{padded, rows}
-use Rattle.book.proofs.Padded.{padded-none, padded-long, padded-set, row-paste, rows-more}
+use Rattle.book.proofs.Padded.{padded-none, padded-long, padded-set, padded-past, row-paste, rows-more}
 
 pub record RowsIn (rs : List (List ℕ)) (len route low high : List ℕ) : Type 0 where
   pub is-len : len ≡ padded 152 (map (λ (r : List ℕ). length r) rs)
@@ -44,3 +46,53 @@ module _ {rs : List (List ℕ)} {len route low high : List ℕ} (h : RowsIn rs l
         is-high = one-more (spanWord 1) k rs r high e l (h .is-high);
         filled = rows-more 16 k rs r f short ∙ omega arith;
       }
+
+-- a row takes w places or more
+rows-reach : (w : ℕ) (rs : List (List ℕ)) → w * length rs ≤ length (rows w rs)
+unfolding rows padded
+rows-reach w [] = omega (arith, mul-zero w)
+rows-reach w (r ∷ rs) =
+    omega (arith, rows-reach w rs, mul-suc w (length rs), length-append (padded w r) (rows w rs), length-append r (replicate (w - length r) 0), length-replicate {A = ℕ} (w - length r) 0)
+
+-- rows that are not too long fill w places each
+pub rows-full : (w : ℕ) (rs : List (List ℕ)) → ((i : ℕ) → length (getD rs i []) ≤ w) → length (rows w rs) ≡ w * length rs
+unfolding rows
+rows-full w [] short = omega (arith, mul-zero w)
+rows-full w (r ∷ rs) short = omega (arith, length-append (padded w r) (rows w rs), padded-long w r (short 0), rows-full w rs (λ i. short (suc i)), mul-suc w (length rs))
+
+-- a row is read back: the k-th of w places each, whatever stands behind the rows
+row-at : (w k : ℕ) (rs : List (List ℕ)) (t : List ℕ) → ((i : ℕ) → length (getD rs i []) ≤ w) → k < length rs → take w (drop (w * k) (rows w rs ++ t)) ≡ padded w (getD rs k [])
+unfolding rows
+row-at w k [] t short l = absurd (omega arith)
+row-at w zero (r ∷ rs) t short l =
+    let z : w * 0 ≡ 0 = omega (arith, mul-zero w) in
+    rw (z, append-assoc (padded w r) (rows w rs) t) (take-at (padded w r) (rows w rs ++ t) w (padded-long w r (short 0)))
+row-at w (suc k) (r ∷ rs) t short l =
+    let e : w * suc k ≡ length (padded w r) + w * k = omega (arith, mul-suc w k, padded-long w r (short 0)) in
+    let f : drop (w * suc k) (padded w r ++ rows w rs ++ t) ≡ drop (w * k) (rows w rs ++ t) =
+    ap (λ (i : ℕ). drop i (padded w r ++ rows w rs ++ t)) e ∙ ap (drop (length (padded w r) + w * k)) (append-assoc (padded w r) (rows w rs) t)
+    ∙ drop-append-add (padded w r) (rows w rs ++ t) (w * k)
+    in
+    ap (take w) f ∙ row-at w k rs t (λ i. short (suc i)) (omega arith)
+
+pub rows-held : (n w : ℕ) (rs : List (List ℕ)) → w * length rs ≤ length (padded n (rows w rs))
+unfolding padded
+rows-held n w rs = omega (arith, rows-reach w rs, length-append (rows w rs) (replicate (n - length (rows w rs)) 0))
+
+-- the places of row k, also where no row is that far; and its route
+pub row-places : (n w k : ℕ) (rs : List (List ℕ)) → ((i : ℕ) → length (getD rs i []) ≤ w) → w * k + w ≤ n → take w (drop (w * k) (padded n (rows w rs))) ≡ padded w (getD rs k [])
+unfolding padded
+row-places n w k rs short l = go (decLt k (length rs))
+  where
+    go : Dec (k < length rs) → take w (drop (w * k) (padded n (rows w rs))) ≡ padded w (getD rs k [])
+    go (yes q) = row-at w k rs (replicate (n - length (rows w rs)) 0) short q
+    go (no q) =
+        let far : w * length rs ≤ w * k = mul-le-mul-left w (omega arith) in
+        padded-past n w (w * k) (rows w rs) (omega (arith, rows-full w rs short)) l
+        ∙ sym (ap (padded w) (List·getD-eq-default rs [] {n = k} (omega arith)) ∙ padded-none w)
+
+pub row-held : (n w k : ℕ) (rs : List (List ℕ)) → ((i : ℕ) → length (getD rs i []) ≤ w) → w * k + w ≤ n → take (length (getD rs k [])) (drop (w * k) (padded n (rows w rs))) ≡ getD rs k []
+unfolding padded
+row-held n w k rs short l =
+    sym (take-take (length (getD rs k [])) w (drop (w * k) (padded n (rows w rs))) (short k)) ∙ ap (take (length (getD rs k []))) (row-places n w k rs short l)
+    ∙ take-append-seam (getD rs k []) (replicate (w - length (getD rs k [])) 0)

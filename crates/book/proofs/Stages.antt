@@ -50,7 +50,7 @@ all-bytes [] h = refl
 all-bytes (x ∷ s) h = and-both (lt-ltb x 256 (h 0)) (all-bytes s (λ i. h (suc i)))
 
 -- one of a list whose every member passes a test
-every-at : {A : Type 0} (q : A → Bool) (d : A) (before l : List A) → every (λ b. q) before l ≡ true → (j : ℕ) → j < length l → q (getD l j d) ≡ true
+pub every-at : {A : Type 0} (q : A → Bool) (d : A) (before l : List A) → every (λ b. q) before l ≡ true → (j : ℕ) → j < length l → q (getD l j d) ≡ true
 unfolding every
 every-at q d before [] h j l = absurd (omega arith)
 every-at q d before (a ∷ r) h zero l = and-inv {a = q a} h .0

@@ -33,7 +33,7 @@ one-most true = omega arith
 one-most false = omega arith
 
 -- a number is in a list exactly if its count is not 0
-count-among : (x : ℕ) (xs : List ℕ) → among x xs ≡ not (eqb (count x xs) 0)
+pub count-among : (x : ℕ) (xs : List ℕ) → among x xs ≡ not (eqb (count x xs) 0)
 unfolding count
 count-among x [] = refl
 count-among x (y ∷ ys) = go (ℕ-discrete x y) (count-among x ys)

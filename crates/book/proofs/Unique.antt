@@ -8,17 +8,27 @@ use mathlib.Core.Logic.{_⊎_, inl, inr}
 use mathlib.Core.Bool.{true}
 use native.Mathlib.Omega.{arith}
 use Rattle.book.specs.declared.Reply.{Reply}
+use Rattle.book.specs.declared.write.Written.{Written}
 use Rattle.book.specs.Book.{RouteBook, wellFormed}
 use Rattle.book.specs.Format.{encode, Reading, good, refused, reading}
 use Rattle.book.specs.Refusal.{Due, Row, row1-mark, row1-fields, row1-route, row2, row3, row4-node, row4-span, row4-lightpath, row5, row6, row7, row8, row9, row10, Fault}
 use Rattle.book.specs.Memory.{bookOf, emptyBook, numberOf, placeOf, shown}
+use Rattle.book.specs.Writing.{writing, writtenOf, buffer}
 use Rattle.book.proofs.Readers.{Bytes}
 use Rattle.book.proofs.Format.{reading-back, reading-only}
 use Rattle.book.proofs.Refusals.{refused-fault}
 
--- no second reply meets the contract of `read`
+-- no second answer meets a contract that is an equation with a function of the input: so of `read`, and of every operation on choices
+pub one-answer : {A : Type 0} (told r q : A) → r ≡ told → q ≡ told → r ≡ q
+one-answer told r q e f = e ∙ sym f
+
 pub one-reply : (b : List ℕ) (r q : Reply) → r ≡ shown (reading b) → q ≡ shown (reading b) → r ≡ q
-one-reply b r q e f = e ∙ sym f
+one-reply b r q = one-answer (shown (reading b)) r q
+
+-- nor that of `write`, which speaks of the answer and of the whole buffer
+pub one-writing : (b : List ℕ) (n : ℕ) (out : List ℕ) (r q : Written) (x y : List ℕ) → (r ≡ writtenOf (writing b n (length out))) × (x ≡ buffer (writing b n (length out)) out)
+    → (q ≡ writtenOf (writing b n (length out))) × (y ≡ buffer (writing b n (length out)) out) → (r ≡ q) × (x ≡ y)
+one-writing b n out r q x y e f = (one-answer (writtenOf (writing b n (length out))) r q (e .0) (f .0), one-answer (buffer (writing b n (length out)) out) x y (e .1) (f .1))
 
 -- no book has a second encoding, and no bytes encode a second book
 pub one-book : (m n : RouteBook) → wellFormed m ≡ true → wellFormed n ≡ true → encode m ≡ encode n → m ≡ n

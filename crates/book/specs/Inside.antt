@@ -4,10 +4,11 @@ use mathlib.Core.Path.{_≡_}
 use mathlib.Core.List.{List, [], _∷_, map}
 use mathlib.Core.Bool.{Bool, true, cond, not, _&&_, _||_}
 use lib.ListN.{length, getD, take, drop}
+use lib.Seq.{paste}
 use lib.Dec.{eqb, ltb, leb}
 use Rattle.book.specs.Reader.{Got, got, bad, Reader, _>>=_, _>>_, give, need, begun, each, opened}
-use Rattle.book.specs.Book.{Span, Ends, Lightpath, Alternative, RouteBook, mostForOne, mostWithAlternatives, some, every, spanFits, lightpathFits, spanAt, endsOf, endsAt, lightpathOf, count, different}
-use Rattle.book.specs.Format.{EN, nd, sp, route, lp, al, nothing, refused}
+use Rattle.book.specs.Book.{Span, Ends, Lightpath, Alternative, RouteBook, mostForOne, mostWithAlternatives, some, every, wellFormed, spanFits, lightpathFits, spanAt, endsOf, endsAt, lightpathOf, count, different}
+use Rattle.book.specs.Format.{EN, nd, sp, route, lp, al, nothing, refused, bytesOf, lpBytes, encode}
 use Rattle.book.specs.Bits.{has, put, putIf, stationSet, spanWord}
 use Rattle.book.specs.Memory.{bookOf, shown}
 use Rattle.book.specs.declared.Book.{Book}
@@ -256,3 +257,45 @@ pub record LightpathsRead (b : Book) : Type 0 where
 
 abbrev pub refusedReply : ℕ → ℕ → Reply
 refusedReply n p = shown (refused n p)
+
+-- the bytes x, laid over d from the place `at` on
+abbrev pub laid : List ℕ → ℕ → List ℕ → List ℕ
+laid d at x = paste d at x (length x)
+
+-- b holds a well-formed book
+pub record Held (b : Book) : Type 0 where
+  pub book : RouteBook
+  pub is : b ≡ bookOf book
+  pub fits : wellFormed book ≡ true
+
+-- the LP records of whichever book b holds end, from the place `at` on, within n bytes
+abbrev pub Room : Book → ℕ → ℕ → Type 0
+Room b at n = (m : RouteBook) → b ≡ bookOf m → at + length (bytesOf lpBytes (m .lightpaths)) ≤ n
+
+-- the book m with other lightpaths
+abbrev pub withLightpaths : RouteBook → List Lightpath → RouteBook
+withLightpaths m lps = record { nodes = m .nodes; spans = m .spans; lightpaths = lps; alternatives = m .alternatives }
+
+-- s are the bytes of the book m, `old` holds m, and `new` holds m with the lightpaths lps, as many as it has
+pub record Rewriting (s : List ℕ) (old new : Book) (m : RouteBook) (lps : List Lightpath) : Type 0 where
+  pub written : s ≡ encode m
+  pub old-is : old ≡ bookOf m
+  pub new-is : new ≡ bookOf (withLightpaths m lps)
+  pub old-fits : wellFormed m ≡ true
+  pub new-fits : wellFormed (withLightpaths m lps) ≡ true
+  pub as-many : length lps ≡ length (m .lightpaths)
+
+pub record Rewrites (s : List ℕ) (old new : Book) : Type 0 where
+  pub book : RouteBook
+  pub lightpaths : List Lightpath
+  pub are : Rewriting s old new book lightpaths
+
+-- the struct b holds the good book m, whose bytes are s; and some good book
+pub record ReadAs (s : List ℕ) (b : Book) (m : RouteBook) : Type 0 where
+  pub written : s ≡ encode m
+  pub held : b ≡ bookOf m
+  pub fits : wellFormed m ≡ true
+
+pub record Read (s : List ℕ) (b : Book) : Type 0 where
+  pub book : RouteBook
+  pub is : ReadAs s b book

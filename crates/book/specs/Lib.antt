@@ -7,3 +7,6 @@ pub mod Refusal
 pub mod Bits
 pub mod Memory
 pub mod Inside
+pub mod Choice
+pub mod Writing
+pub mod Moving

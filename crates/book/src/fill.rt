@@ -66,7 +66,13 @@ pub(crate) fn stopped(no: u8, place: usize, b: Book) -> Filled
 }
 
 // The book with other rows.
-fn with_rows(b: Book, len: [u8; 152], route: [u8; 2432], low: [u64; 152], high: [u64; 152]) -> Book
+pub(crate) fn with_rows(
+    b: Book,
+    len: [u8; 152],
+    route: [u8; 2432],
+    low: [u64; 152],
+    high: [u64; 152],
+) -> Book
     ensures { λ r. ⌜ r ≡ withRows b len route low high ⌝ }
 {
     let mut f = b;

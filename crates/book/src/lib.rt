@@ -1,10 +1,12 @@
 // A reader of route books: any bytes in, a book or a numbered refusal out. docs/BOOK.md says what a book is and what each refusal means.
+pub mod choice;
 mod fill;
 mod record;
 mod row;
 mod set;
 mod stage;
 mod walk;
+pub mod write;
 
 use stage::Counts;
 ghost use mathlib.Core.Path.{_≡_};

@@ -1,7 +1,8 @@
 // A route in a row of sixteen places, and its spans as a set of 128: two words.
 use crate::set;
+use crate::write;
 ghost use mathlib.Core.Path.{_≡_};
-ghost use Prim.Native.Nat.{_+_, _≤_, _<_};
+ghost use Prim.Native.Nat.{_+_, _≤_};
 ghost use lib.ListN.{length};
 ghost use lib.Seq.{paste};
 ghost use Rattle.book.specs.Inside.{wordsOf, wordsInto};
@@ -38,23 +39,11 @@ fn words_of(route: &[u8]) -> Words
     w
 }
 
-// Copies a route into the rows, at a row's start.
-fn copy_row(rows: &mut [u8; 2432], at: usize, route: &[u8])
-    requires { ⌜ (length (now rows) ≡ 2432) × (at + length (now route) ≤ 2432) ⌝ }
-    ensures { λ r. ⌜ now (rows .exit) ≡ paste (now (rows .entry)) at (now (route .entry)) (length (now (route .entry))) ⌝ }
-{
-    let mut i = 0;
-    while i < route.len() {
-        rows[at + i] = route[i];
-        i += 1;
-    }
-}
-
 // Puts a route into the rows, at a row's start, and hands back its spans as a set.
 pub(crate) fn put_row(rows: &mut [u8; 2432], at: usize, route: &[u8]) -> Words
     requires { ⌜ (length (now rows) ≡ 2432) × (at + length (now route) ≤ 2432) ⌝ }
     ensures { λ r. ⌜ (r ≡ wordsOf (now (route .entry))) × (now (rows .exit) ≡ paste (now (rows .entry)) at (now (route .entry)) (length (now (route .entry)))) ⌝ }
 {
-    copy_row(rows, at, route);
+    write::put(rows, at, route);
     words_of(route)
 }

@@ -1,14 +1,14 @@
--- `space` keeps its 4,096 bytes and the loop's own test keeps the count below that; the measure is the room left.
+-- The loop's own test keeps the count below 4,096 and inside `space`, whose length no store changes. The measure is how many bytes a line may still have.
 use mathlib.Core.Path.{_≡_}
 use Prim.Native.Nat.{_-_}
 use native.Mathlib.Omega.{arith}
 use lib.ListN.{length, length-set}
 use borrow.Author.Needs.{needs}
-use Rattle.hexbooks.proofs.unhex.Statement.{statement}
-use Rattle.hexbooks.proofs.unhex.Tie as tie
+use Rattle.hexlines.proofs.unhex.Statement.{statement}
+use Rattle.hexlines.proofs.unhex.Tie as tie
 
 abbrev Inv-loop : tie.InvT-loop
-Inv-loop line space₀ n₀ space n = 4096 ≡ length space
+Inv-loop line space₀ n₀ space n = length space ≡ length space₀
 
 abbrev μ-loop : tie.MeasureT-loop
 μ-loop line space₀ n₀ space n = 4096 - n
@@ -58,6 +58,12 @@ same-length-3 c = search needs
 returns-3 : tie.Need-returns-3 Inv-loop μ-loop
 returns-3 c = search needs
 
+same-length-4 : tie.Need-same-length-4 Inv-loop μ-loop
+same-length-4 c = search needs
+
+returns-4 : tie.Need-returns-4 Inv-loop μ-loop
+returns-4 c = search needs
+
 pub unhex-spec : {M : Type 1} → statement M
 unhex-spec =
     tie.close
@@ -78,4 +84,6 @@ unhex-spec =
     loop-less
     loop-again
     same-length-3
-    returns-3)
+    returns-3
+    same-length-4
+    returns-4)

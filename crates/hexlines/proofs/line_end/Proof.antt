@@ -1,12 +1,12 @@
--- The place never passes the end of the text, and the measure is what is left of the text.
-use Prim.Native.Nat.{_≤_, _-_}
+-- The place starts at `at` and goes on only inside the text. The measure is what is left of the text.
+use Prim.Native.Nat.{_≤_, _-_, max}
 use lib.ListN.{length}
 use borrow.Author.Needs.{needs}
-use Rattle.hexbooks.proofs.line_end.Statement.{statement}
-use Rattle.hexbooks.proofs.line_end.Tie as tie
+use Rattle.hexlines.proofs.line_end.Statement.{statement}
+use Rattle.hexlines.proofs.line_end.Tie as tie
 
 abbrev Inv-loop : tie.InvT-loop
-Inv-loop text at e₀ e = (at ≤ e) × (e ≤ length text)
+Inv-loop text at e₀ e = (at ≤ e) × (e ≤ max at (length text))
 
 abbrev μ-loop : tie.MeasureT-loop
 μ-loop text at e₀ e = length text - e

@@ -1,0 +1,56 @@
+use native.Mathlib.Omega.{arith}
+use mathlib.Core.Path.{refl}
+use denote.Ref.{now}
+use Rattle.book.proofs.Stages.{all-bytes}
+use Rattle.book.proofs.Written.{reply-read, reply-refused}
+use borrow.Author.Needs.{needs}
+use Rattle.book.proofs.write.write.Statement.{statement}
+use Rattle.book.proofs.write.write.Tie as tie
+use Rattle.book.proofs.write.write.Reads as reads
+use Rattle.book.proofs.write.write.Lts as lts
+use Rattle.book.proofs.read.Reads as read-reads
+use Rattle.book.proofs.write.write_choice.Reads as write-choice-reads
+
+read-requires : tie.Need-read-requires
+read-requires c κs = search needs
+
+enum-told : tie.Need-enum-told
+enum-told c = search needs
+
+write-choice-requires : tie.Need-write-choice-requires
+write-choice-requires c κs =
+    let s = now (c .before .before .before .before .before .before .before .args .s) in
+    let r = c .before .before .before .before .read in
+    let g = reply-read s (r .result) (all-bytes s (λ i. omega (arith, c .before .before .before .before .before .before .shared-slice-known .given i))) (r .ensures) (c .before .enum-told .given .1) in
+    record { book = g .book; is = g .is }
+
+enum-known-answer : tie.Need-enum-known-answer
+enum-known-answer c = search needs
+
+same-length : tie.Need-same-length
+same-length c = search needs
+
+returns : tie.Need-returns
+returns c =
+    let s = now (c .before .before .before .before .before .before .before .before .before .before .args .s) in
+    let r = c .before .before .before .before .before .before .before .read in
+    let g = reply-read s (r .result) (all-bytes s (λ i. omega (arith, c .before .before .before .before .before .before .before .before .before .shared-slice-known .given i))) (r .ensures) (c .before .before .before .before .enum-told .given .1) in
+    rw (g .reads) (c .before .before .write-choice .ensures (g .book) (g .is))
+
+returns-2 : tie.Need-returns-2
+returns-2 c =
+    let s = now (c .before .before .before .before .before .before .before .args .s) in
+    let r = c .before .before .before .before .read in
+    rw (reply-refused s (r .result) _ _ (r .ensures) (c .before .answer .given .1)) (refl, refl)
+
+pub write-spec : {M : Type 1} → statement M
+write-spec =
+    tie.close
+    (tie.spec
+    read-requires
+    enum-told
+    write-choice-requires
+    enum-known-answer
+    same-length
+    returns
+    returns-2)

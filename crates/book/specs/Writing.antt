@@ -1,0 +1,38 @@
+-- Writing the chosen book into a lent buffer: docs/BOOK.md, section 9.
+use Prim.Native.Nat.{ℕ}
+use mathlib.Core.List.{List, _++_}
+use mathlib.Core.Bool.{cond}
+use lib.ListN.{length, drop}
+use lib.Dec.{ltb, leb}
+use Rattle.book.specs.Format.{encode, Reading, good, refused, reading}
+use Rattle.book.specs.Choice.{choices, chosen}
+use Rattle.book.specs.declared.write.Written.{Written}
+use Rattle.book.specs.declared.write.Written.the-variants.{Length, Refused}
+
+-- B60: what writing answers: these bytes, or a number of refusal and a place
+pub data Writing : Type 0 where
+  served : List ℕ → Writing
+  denied : ℕ → ℕ → Writing
+
+-- B62: 11 where the buffer is shorter than the written book
+abbrev pub fitted : ℕ → List ℕ → Writing
+fitted room w = cond (leb (length w) room) (served w) (denied 11 0)
+
+-- B61: the book's own fault comes first; then 12, where the number is not below the number of choices; then 11
+abbrev pub writingOf : Reading → ℕ → ℕ → Writing
+writingOf (good m) n room = cond (ltb n (choices m)) (fitted room (encode (chosen m n))) (denied 12 0)
+writingOf (refused k p) n room = denied k p
+
+-- the bytes of a book, the number of a choice, and the length of the buffer
+abbrev pub writing : List ℕ → ℕ → ℕ → Writing
+writing b n room = writingOf (reading b) n room
+
+-- B63: the buffer afterwards: the written book and what stood beyond it; or all as it was
+abbrev pub buffer : Writing → List ℕ → List ℕ
+buffer (served w) out = w ++ drop (length w) out
+buffer (denied k p) out = out
+
+-- B60: the answer in memory: how many bytes were written, or the refusal
+abbrev pub writtenOf : Writing → Written
+writtenOf (served w) = Length (length w)
+writtenOf (denied k p) = Refused k p
