@@ -8,7 +8,6 @@ use native.Mathlib.Nat.{mul-le-mul, pow-succ', mod-self, mod-eq-of-lt}
 use native.Mathlib.Omega.{arith}
 use lib.ListN.{length, getD, length-map}
 use Rattle.book.specs.Book.{RouteBook, count, wellFormed}
-use Rattle.book.specs.Memory.{padded}
 use Rattle.book.specs.Choice.{owners, movable, listed, sizes, valid, product, choices, number, digits, stepped}
 use Rattle.book.specs.Moving.{movablesOf, capped, sizesIn}
 use Rattle.book.proofs.Padded.{padded-long, padded-at}

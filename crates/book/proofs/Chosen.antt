@@ -2,16 +2,16 @@
 -- A digit is at most the number of its lightpath's alternatives, so it picks a route of the book, and every one of these fits its lightpath's ends.
 use Prim.Native.Nat.{ℕ, zero, suc, _+_, _-_, _≤_, _<_, zero-le}
 use mathlib.Core.Path.{_≡_, refl, sym, ap, ap₂, _∙_, subst}
-use mathlib.Core.List.{List, [], _∷_, _++_, map, map-append}
-use mathlib.Core.Bool.{Bool, true, false, cond, _&&_, false≢true}
+use mathlib.Core.List.{List, [], _∷_, _++_, map}
+use mathlib.Core.Bool.{Bool, true, false, cond}
 use native.Mathlib.Omega.{arith}
-use lib.ListN.{length, getD, replicate, length-map, List·getD-map}
+use lib.ListN.{length, getD, replicate, List·getD-map}
 use lib.Dec.{eqb, ltb}
 use borrow.Author.Tests.{eqb-true, ltb-true}
 use Rattle.book.specs.Book.{Span, Route, Ends, Lightpath, Alternative, RouteBook, every, count, endsOf, endsAt, lightpathOf, follows, lightpathEnds, countsFit, routeFits, lightpathFits, alternativeFits, wellFormed}
 use Rattle.book.specs.Format.{encode, good, reading}
 use Rattle.book.specs.Memory.{padded}
-use Rattle.book.specs.Choice.{owners, movable, listed, sizes, valid, choices, digits, noRoute, lightpathAt, alternativesOf, routesFor, digitFor, routeBy, rerouted, chosenBy, chosen}
+use Rattle.book.specs.Choice.{owners, movable, listed, sizes, valid, digits, noRoute, lightpathAt, alternativesOf, routesFor, digitFor, routeBy, rerouted, chosenBy, chosen}
 use Rattle.book.proofs.Tests.{and-inv, and-both}
 use Rattle.book.proofs.Parts.{Parts, parts, whole}
 use Rattle.book.proofs.Format.{reading-back}

@@ -5,9 +5,9 @@ use mathlib.Core.Path.{_≡_, refl, sym, ap, ap₂, _∙_}
 use mathlib.Core.List.{List, [], _∷_, _++_, append-assoc, append-nil}
 use mathlib.Core.Bool.{Bool, cond}
 use native.Mathlib.Numerals.{add-one}
-use native.Mathlib.Nat.{mul-assoc, mul-comm, mul-one, one-mul, mul-le-mul, pow-le-pow-right, pow-succ', mod-lt}
+use native.Mathlib.Nat.{mul-assoc, mul-comm, mul-one, one-mul, mul-le-mul, pow-le-pow-right, pow-succ'}
 use native.Mathlib.Omega.{arith}
-use lib.ListN.{length, getD, take, drop, set, length-set, length-map, length-drop, drop-of-length-le, List·getD-map}
+use lib.ListN.{length, getD, take, drop, set, length-set, length-map, drop-of-length-le, List·getD-map}
 use lib.Seq.{drop-cons, take-suc-set, drop-set-lt, set-split, take-all}
 use lib.Dec.{ltb}
 use borrow.Author.Tests.{lt-ltb, le-ltb}

@@ -13,8 +13,8 @@ use Rattle.book.specs.Reader.{each}
 use Rattle.book.specs.Book.{Span}
 use Rattle.book.specs.Format.{nd, sp}
 use Rattle.book.specs.Bits.{putIf, stationsInto, stationSet}
-use Rattle.book.specs.Memory.{padded, bookOf, emptyBook}
-use Rattle.book.specs.Inside.{remade, Numbered, spanIn, partly, Reached, Halted, HoldsNodes, HoldsSpans}
+use Rattle.book.specs.Memory.{padded, bookOf, emptyBook, remade}
+use Rattle.book.specs.Inside.{Numbered, spanIn, partly, Reached, Halted, HoldsNodes, HoldsSpans}
 use Rattle.book.proofs.Padded.{padded-none}
 use Rattle.book.proofs.Stations.{stations-more}
 use Rattle.book.proofs.Turns.{Turned, turned-start, turned-next, turned-stop, turned-done, column-more}

@@ -4,14 +4,14 @@ use Prim.Native.Nat.{ℕ, zero, suc, _+_, _-_, _≤_, _<_, min}
 use mathlib.Core.Path.{_≡_, refl, sym, ap, ap₂, _∙_, subst}
 use mathlib.Core.List.{List, [], _∷_, _++_, map, map-append, append-nil, append-assoc, reverseAux}
 use mathlib.Core.Logic.{_⊎_, inl, inr, ⊎-elim}
-use mathlib.Core.Bool.{Bool, true, false, cond, _&&_, _||_, false≢true}
+use mathlib.Core.Bool.{Bool, true, false, cond, _&&_, _||_}
 use native.Mathlib.Decide.{ℕ-discrete, decLt}
 use native.Mathlib.Omega.{arith}
 use lib.ListN.{length, getD, take, set, replicate, length-append, length-map}
 use lib.Seq.{set-append-seam, getD-append-seam, take-at}
 use lib.Dec.{eqb, ltb, leb}
 use borrow.Author.Tests.{eq-eqb, ne-eqb, lt-ltb, le-ltb, ltb-true, leb-true}
-use Rattle.book.specs.Book.{Span, Ends, Alternative, RouteBook, endsOf, wellFormed, count, different, among, every, follows, lightpathOf, routeFits, endsAt, alternativeFits}
+use Rattle.book.specs.Book.{Span, Ends, Alternative, RouteBook, endsOf, wellFormed, count, different, among, every, follows, lightpathOf, alternativeFits}
 use Rattle.book.specs.Memory.{padded, bookOf}
 use Rattle.book.specs.Inside.{heldFor, TallyOf}
 use Rattle.book.specs.Choice.{owners, movableFrom, movable}

@@ -6,7 +6,7 @@ use mathlib.Core.List.{List, [], _++_, append-assoc}
 use native.Mathlib.Omega.{arith}
 use lib.ListN.{length, take, drop, length-append}
 use lib.Seq.{paste-zero, length-paste, take-paste, drop-paste, take-length, drop-drop, take-append-add, drop-append-add}
-use Rattle.book.specs.Inside.{laid}
+use Rattle.book.specs.Memory.{laid}
 
 pub laid-none : (d : List ℕ) (at : ℕ) → laid d at [] ≡ d
 laid-none d at = sym (paste-zero d at [])

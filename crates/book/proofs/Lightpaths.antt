@@ -13,8 +13,8 @@ use Rattle.book.specs.Reader.{each}
 use Rattle.book.specs.Book.{Span, Ends, Lightpath, Alternative, every, lightpathEnds, lightpathFits, lengthFits, endsOf, lightpathOf}
 use Rattle.book.specs.Format.{lp, al}
 use Rattle.book.specs.Bits.{spanWord}
-use Rattle.book.specs.Memory.{padded, rows, routesOf, bookOf}
-use Rattle.book.specs.Inside.{remade, Numbered, SpansIn, EndsIn, LpNo, lightpathIn, TallyOf, AlNo, alternativeIn, heldFor, partly, Reached, Halted, HoldsLightpaths, HoldsAll}
+use Rattle.book.specs.Memory.{padded, rows, routesOf, bookOf, remade}
+use Rattle.book.specs.Inside.{Numbered, SpansIn, EndsIn, LpNo, lightpathIn, TallyOf, AlNo, alternativeIn, heldFor, partly, Reached, Halted, HoldsLightpaths, HoldsAll}
 use Rattle.book.proofs.Tests.{and-inv}
 use Rattle.book.proofs.Stands.{length-most}
 use Rattle.book.proofs.Tallies.{tally-none, held-most, one-most, tally-more}

@@ -1,19 +1,19 @@
 -- Where the alternatives of a lightpath stand: since alternatives stand by lightpath, those of lightpath k come right after those of the
 -- lightpaths below k, so that the j-th of them is found by counting.
 use Prim.Native.Nat.{ℕ, zero, suc, _+_, _≤_, _<_}
-use mathlib.Core.Path.{_≡_, refl, sym, ap, _∙_}
+use mathlib.Core.Path.{_≡_, refl}
 use mathlib.Core.List.{List, [], _∷_, map}
-use mathlib.Core.Bool.{Bool, true, false, cond, _&&_, _||_}
+use mathlib.Core.Bool.{Bool, true, false, cond}
 use native.Mathlib.Decide.{ℕ-discrete, decLt}
 use native.Mathlib.Omega.{arith}
 use lib.ListN.{length, getD}
-use lib.Dec.{eqb, ltb, leb}
+use lib.Dec.{eqb, ltb}
 use borrow.Author.Tests.{eq-eqb, ne-eqb, lt-ltb, le-ltb}
 use Rattle.book.specs.Book.{Span, Route, Ends, Alternative, RouteBook, wellFormed, endsOf, count, every, lightpathOf, follows, alternativeFits}
 use Rattle.book.specs.Choice.{owners, noRoute, alternativesOf}
 use Rattle.book.proofs.Tests.{and-inv}
 use Rattle.book.proofs.Parts.{parts}
-use Rattle.book.proofs.Gathered.{Follows, follows-inv}
+use Rattle.book.proofs.Gathered.{follows-inv}
 
 abbrev pub routeOfAlternative : Alternative → Route
 routeOfAlternative a = a .route

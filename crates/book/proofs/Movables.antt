@@ -2,7 +2,7 @@
 -- So the loop over the alternatives, and the function that takes one of them, cite the same equations.
 use Prim.Native.Nat.{ℕ, _+_, _≤_, _<_, min}
 use mathlib.Core.Path.{_≡_, refl, sym, ap, ap₂, _∙_}
-use mathlib.Core.List.{List, [], _∷_}
+use mathlib.Core.List.{List, _∷_}
 use mathlib.Core.Bool.{Bool, true, false, cond}
 use native.Mathlib.Omega.{arith}
 use native.Mathlib.Decide.{decLe}
@@ -40,6 +40,11 @@ module _ (w : Movables) (k : ℕ) where
       go false true e = omega (arith, ltb-true (w .count) 8 e)
       go false false e = l
 
+-- of the first n of a list: the j-th, and those after it
+pub taken-next : (n : ℕ) (l : List ℕ) (j : ℕ) → n ≤ length l → j < n → drop j (take n l) ≡ getD l j 0 ∷ drop (j + 1) (take n l)
+taken-next n l j h u =
+    drop-cons (take n l) j 0 (omega (arith, length-take-le n l h)) ∙ ap₂ (λ (x : ℕ) (y : ℕ). x ∷ drop y (take n l)) (getD-take n l j 0 u) (sym (add-one j))
+
 -- after j of n alternatives: what is left to gather gives the whole
 pub record Gathering (owner : List ℕ) (n : ℕ) (w : Movables) (j : ℕ) : Type 0 where
   pub long : length owner ≡ 56
@@ -55,10 +60,7 @@ module _ (owner : List ℕ) (n : ℕ) where
   pub gathering-next : (w : Movables) (j : ℕ) → Gathering owner n w j → j < n → Gathering owner n (withOne w (getD owner j 0)) (j + 1)
   unfolding gathered
   gathering-next w j h l =
-      let cut : drop j (take n owner) ≡ getD owner j 0 ∷ drop (j + 1) (take n owner) =
-      drop-cons (take n owner) j 0 (omega (arith, h .long, h .most, length-take-le n owner (omega (arith, h .long, h .most))))
-      ∙ ap₂ (λ (x : ℕ) (y : ℕ). x ∷ drop y (take n owner)) (getD-take n owner j 0 l) (sym (add-one j))
-      in
+      let cut = taken-next n owner j (omega (arith, h .long, h .most)) l in
       record {
         long = h .long;
         most = h .most;

@@ -1,14 +1,14 @@
 -- The loop that puts the chosen routes in their rows: after i movable lightpaths, moving the others gives the whole.
 -- Rows are copied from the routes as they were read, so that no row that is still to be copied has been written over.
 use Prim.Native.Nat.{ℕ, _+_, _*_, _≤_, _<_, min}
-use mathlib.Core.Path.{_≡_, refl, sym, ap, ap₂, _∙_}
-use mathlib.Core.List.{List, [], _∷_}
-use native.Mathlib.Numerals.{add-one}
+use mathlib.Core.Path.{_≡_, refl, sym, ap, _∙_}
+use mathlib.Core.List.{List}
 use native.Mathlib.Omega.{arith}
 use lib.ListN.{length, getD, take, drop, length-take, drop-of-length-le}
-use lib.Seq.{drop-cons, drop-drop, getD-drop, getD-take, length-take-le}
+use lib.Seq.{drop-drop, getD-drop}
 use Rattle.book.specs.Moving.{rowOf, movedRow, moved}
 use Rattle.book.specs.declared.choice.Rows.{Rows}
+use Rattle.book.proofs.Movables.{taken-next}
 
 module _ (listed : Rows) (start : ℕ) (ks ws ds : List ℕ) where
   pub record Moving (n : ℕ) (r : Rows) (first i : ℕ) : Type 0 where
@@ -28,10 +28,7 @@ module _ (listed : Rows) (start : ℕ) (ks ws ds : List ℕ) where
       → Moving n (movedRow listed r (min (getD ks i 0) 95) (rowOf (getD ks i 0) first (getD ds i 0))) (first + getD ws i 0) (i + 1)
   unfolding moved
   moving-next {n} {r} {first} {i} h l q =
-      let cut : drop i (take n ks) ≡ getD ks i 0 ∷ drop (i + 1) (take n ks) =
-      drop-cons (take n ks) i 0 (omega (arith, h .long, h .eight, length-take-le n ks (omega (arith, h .long, h .eight))))
-      ∙ ap₂ (λ (x : ℕ) (y : ℕ). x ∷ drop y (take n ks)) (getD-take n ks i 0 l) (sym (add-one i))
-      in
+      let cut = taken-next n ks i (omega (arith, h .long, h .eight)) l in
       record {
         long = h .long;
         eight = h .eight;

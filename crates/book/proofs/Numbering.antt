@@ -1,8 +1,8 @@
 -- THE NUMBERING: numbers below the product of the sizes and valid rows of digits correspond one to one, and a step of the digits adds one.
 -- A number is its first digit plus the first size times the number of the other digits, so each law is an induction over the sizes.
 use Prim.Native.Nat.{ℕ, zero, suc, _+_, _*_, _/_, _%_, _<_, _≤_}
-use mathlib.Core.Path.{_≡_, refl, sym, ap, ap₂, _∙_, subst}
-use mathlib.Core.List.{List, [], _∷_, map}
+use mathlib.Core.Path.{_≡_, refl, sym, ap, ap₂, _∙_}
+use mathlib.Core.List.{List, [], _∷_}
 use mathlib.Core.Bool.{Bool, true, false, cond, false≢true}
 use native.Mathlib.Nat.{mul-comm, mul-assoc, mul-left-comm, mul-one, one-mul, mul-add, mod-lt, mod-eq-of-lt, mul-pos, div-add-mod', zero-div, zero-mod}
 use native.Mathlib.Omega.{arith}

@@ -9,14 +9,13 @@ use native.Mathlib.Decide.{ℕ-discrete, decLt}
 use native.Mathlib.Nat.{mul-zero, mul-suc}
 use native.Mathlib.Omega.{arith}
 use lib.ListN.{length, getD, take, drop, set, replicate, length-map, length-append, length-set, List·getD-append, List·getD-map}
-use lib.Seq.{set-append-left, getD-set-same, getD-set-other, getD-append-add, ext-getD, take-append-add, drop-append-add, drop-at, take-at}
+use lib.Seq.{set-append-left, getD-set-same, getD-set-other, getD-append-add, ext-getD, drop-at, take-at}
 use lib.Dec.{eqb, ltb}
-use borrow.Author.Tests.{eq-eqb, ne-eqb, lt-ltb, le-ltb}
+use borrow.Author.Tests.{eq-eqb, ne-eqb, lt-ltb}
 use Rattle.book.specs.Book.{Span, Route, Ends, Lightpath, RouteBook, count, lightpathOf, wellFormed}
 use Rattle.book.specs.Choice.{owners, movableFrom, movable, listed, sizes, valid, noRoute, routesFor, digitFor, routeBy, rerouted, chosenBy}
 use Rattle.book.specs.Bits.{stationSet, spanWord, wordInto}
-use Rattle.book.specs.Memory.{padded, rows, routesOf, bookOf}
-use Rattle.book.specs.Inside.{laid, remade}
+use Rattle.book.specs.Memory.{padded, rows, routesOf, bookOf, laid, remade}
 use Rattle.book.specs.Moving.{movablesOf, rowOf, movedRow, moved, withRowsOf, chosenIn}
 use Rattle.book.specs.declared.choice.Rows.{Rows}
 use Rattle.book.proofs.Padded.{padded-long}

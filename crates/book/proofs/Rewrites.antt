@@ -8,12 +8,13 @@ use native.Mathlib.Nat.{mul-zero, mul-suc}
 use lib.ListN.{length, take, drop, length-append}
 use lib.Seq.{take-at, drop-at}
 use borrow.Author.Tests.{le-leb, lt-leb}
+use Rattle.book.specs.Memory.{laid}
 use Rattle.book.specs.declared.Book.{Book}
 use Rattle.book.specs.declared.write.Written.the-variants.{Length, Refused}
 use Rattle.book.specs.Book.{Lightpath, RouteBook}
 use Rattle.book.specs.Format.{bytesOf, hdBytes, ndBytes, spBytes, lpBytes, alBytes, enBytes, encode}
 use Rattle.book.specs.Writing.{fitted, writtenOf, buffer}
-use Rattle.book.specs.Inside.{laid, withLightpaths, Rewriting}
+use Rattle.book.specs.Inside.{withLightpaths, Rewriting}
 use Rattle.book.proofs.Longest.{longest}
 use Rattle.book.proofs.Laid.{laid-behind, laid-first}
 
@@ -59,26 +60,26 @@ module _ {s : List ℕ} {old new : Book} {m : RouteBook} {lps : List Lightpath} 
   total = first + y + (length s - (first + x))
 
   first-is : first ≡ length (front m)
-  first-is = ap (λ (b : Book). 6 + 3 * b .nodes + 5 * b .spans) (h .old-is) ∙ sym (front-long m)
+  first-is = ap (λ (b : Book). 6 + 3 * b .nodes + 5 * b .spans) (h .read .held) ∙ sym (front-long m)
 
   front-same : front (withLightpaths m lps) ≡ front m
   front-same = rw (h .as-many)
 
   pub old-fit : first + x ≤ length s
-  old-fit = omega (arith, first-is, is-x, encode-long m, ap length (h .written))
+  old-fit = omega (arith, first-is, is-x, encode-long m, ap length (h .read .written))
 
   total-is : total ≡ length written
-  total-is = omega (arith, first-is, is-x, is-y, encode-long m, encode-long (withLightpaths m lps), ap length (h .written), ap length front-same)
+  total-is = omega (arith, first-is, is-x, is-y, encode-long m, encode-long (withLightpaths m lps), ap length (h .read .written), ap length front-same)
 
   pub total-low : total ≤ 3976
   total-low = omega (arith, total-is, longest (withLightpaths m lps) (h .new-fits))
 
   front-copied : take first s ≡ front m
-  front-copied = ap (take first) (h .written ∙ encode-cut m) ∙ take-at (front m) _ first (sym first-is)
+  front-copied = ap (take first) (h .read .written ∙ encode-cut m) ∙ take-at (front m) _ first (sym first-is)
 
   back-copied : drop (first + x) s ≡ back m
   back-copied =
-      let cut : s ≡ (front m ++ bytesOf lpBytes (m .lightpaths)) ++ back m = h .written ∙ encode-cut m ∙ sym (append-assoc (front m) (bytesOf lpBytes (m .lightpaths)) (back m)) in
+      let cut : s ≡ (front m ++ bytesOf lpBytes (m .lightpaths)) ++ back m = h .read .written ∙ encode-cut m ∙ sym (append-assoc (front m) (bytesOf lpBytes (m .lightpaths)) (back m)) in
       let n : length (front m ++ bytesOf lpBytes (m .lightpaths)) ≡ first + x = length-append (front m) (bytesOf lpBytes (m .lightpaths)) ∙ omega (arith, first-is, is-x) in
       ap (drop (first + x)) cut ∙ drop-at (front m ++ bytesOf lpBytes (m .lightpaths)) (back m) (first + x) n
 

@@ -9,17 +9,16 @@ use native.Mathlib.Numerals.{add-one}
 use lib.ListN.{length, getD, take, drop, length-map, length-append, drop-of-length-le, List·getD-append, List·getD-map}
 use lib.Seq.{drop-cons}
 use Rattle.book.specs.declared.Book.{Book}
-use Rattle.book.specs.Book.{Lightpath, RouteBook, lightpathFits, wellFormed}
+use Rattle.book.specs.Book.{Lightpath, RouteBook, wellFormed}
 use Rattle.book.specs.Format.{LP, recordBytes, bytesOf, lpBytes}
-use Rattle.book.specs.Memory.{routesOf, bookOf}
+use Rattle.book.specs.Memory.{routesOf, bookOf, laid}
 use Rattle.book.specs.Choice.{noRoute, lightpathAt}
-use Rattle.book.specs.Inside.{laid, Held, Room}
+use Rattle.book.specs.Inside.{Held, Room}
 use Rattle.book.proofs.Parts.{parts}
 use Rattle.book.proofs.Stands.{counted, lp-width}
 use Rattle.book.proofs.Longest.{widths, routes-short}
 use Rattle.book.proofs.Rows.{row-held, rows-held}
 use Rattle.book.proofs.Lightpaths.{column-at, routeOf, altRoute}
-use Rattle.book.proofs.Stages.{every-at}
 use Rattle.book.proofs.Laid.{laid-none, laid-long, laid-then}
 
 abbrev pub noLightpath : Lightpath

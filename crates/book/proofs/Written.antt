@@ -1,30 +1,26 @@
 -- The writer's parts fit together: what it has read, and the chosen book, are what `rewrite` asks for.
 -- The struct of the book tells its movable lightpaths, these tell the number of choices and the digits, and the digits the chosen book.
 use Prim.Native.Nat.{ℕ, _≤_, _<_}
-use mathlib.Core.Path.{_≡_, refl, sym, ap, ap₂, _∙_, subst}
-use mathlib.Core.List.{List, _++_}
-use mathlib.Core.Bool.{Bool, true, false, cond, false≢true}
-use native.Mathlib.Omega.{arith}
-use lib.ListN.{length, drop}
-use lib.Dec.{ltb, leb}
+use mathlib.Core.Path.{_≡_, refl, sym, ap, ap₂, _∙_}
+use mathlib.Core.List.{List}
+use mathlib.Core.Bool.{Bool, true, false, false≢true}
 use borrow.Author.Tests.{lt-ltb, le-ltb}
-use Rattle.book.specs.Book.{RouteBook, wellFormed}
+use Rattle.book.specs.Book.{RouteBook}
 use Rattle.book.specs.Format.{encode, Reading, good, refused, reading}
 use Rattle.book.specs.Memory.{bookOf, numberOf, placeOf, shown}
 use Rattle.book.specs.Inside.{ReadAs, Rewriting}
-use Rattle.book.specs.Choice.{sizes, choices, product, digits, routeBy, chosen, lightpathAt}
+use Rattle.book.specs.Choice.{sizes, choices, product, digits, routeBy, chosen}
 use Rattle.book.specs.Moving.{movablesOf, movablesIn, sizesIn, choiceIn, chosenIn}
-use Rattle.book.specs.Writing.{Writing, served, denied, fitted, writingOf, writing, buffer}
+use Rattle.book.specs.Writing.{denied, fitted, writingOf}
 use Rattle.book.specs.declared.Book.{Book}
 use Rattle.book.specs.declared.Reply.{Reply}
 use Rattle.book.specs.declared.Answer.{Answer}
 use Rattle.book.specs.declared.Answer.the-variants.{Good, Refused}
-use Rattle.book.specs.declared.choice.Movables.{Movables}
 use Rattle.book.proofs.Readers.{Bytes}
 use Rattle.book.proofs.Format.{reading-only}
 use Rattle.book.proofs.Numbering.{digits-valid}
 use Rattle.book.proofs.Gathered.{movables-of}
-use Rattle.book.proofs.Chosen.{sizes-above, length-rerouted, chosen-fits, chosen-sizes, chosen-none, chosen-zero, chosen-reads}
+use Rattle.book.proofs.Chosen.{sizes-above, length-rerouted, chosen-fits}
 use Rattle.book.proofs.Choices.{sizes-in}
 use Rattle.book.proofs.Placed.{chosen-in}
 
@@ -45,10 +41,8 @@ module _ {s : List ℕ} {b : Book} (m : RouteBook) (h : ReadAs s b m) where
 
   pub rewriting : (n : ℕ) → Rewriting s b (chosenIn b (movablesIn b) (choiceIn (movablesIn b) n)) m (chosen m n .lightpaths)
   rewriting n = record {
-    written = h .written;
-    old-is = h .held;
+    read = h;
     new-is = chosen-is n;
-    old-fits = h .fits;
     new-fits = chosen-fits m (digits (sizes m) n) (h .fits) (digits-valid (sizes m) n (sizes-above m));
     as-many = length-rerouted (routeBy m (digits (sizes m) n)) 0 (m .lightpaths);
   }

@@ -4,7 +4,7 @@ use mathlib.Core.List.{List, [], _∷_, map}
 use mathlib.Core.Bool.{Bool, true, false, cond, _&&_}
 use lib.ListN.{length, getD}
 use lib.Dec.{eqb, ltb}
-use Rattle.book.specs.Book.{Route, Ends, Lightpath, Alternative, RouteBook, mostWithAlternatives, count, lightpathOf}
+use Rattle.book.specs.Book.{Route, Lightpath, Alternative, RouteBook, mostWithAlternatives, count, lightpathOf}
 use Rattle.book.specs.Memory.{padded}
 
 -- B50: a lightpath is movable where it has alternatives; of the n lightpaths from k on, the movable ones in rising order

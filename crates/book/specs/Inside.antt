@@ -4,7 +4,6 @@ use mathlib.Core.Path.{_≡_}
 use mathlib.Core.List.{List, [], _∷_, map}
 use mathlib.Core.Bool.{Bool, true, cond, not, _&&_, _||_}
 use lib.ListN.{length, getD, take, drop}
-use lib.Seq.{paste}
 use lib.Dec.{eqb, ltb, leb}
 use Rattle.book.specs.Reader.{Got, got, bad, Reader, _>>=_, _>>_, give, need, begun, each, opened}
 use Rattle.book.specs.Book.{Span, Ends, Lightpath, Alternative, RouteBook, mostForOne, mostWithAlternatives, some, every, wellFormed, spanFits, lightpathFits, spanAt, endsOf, endsAt, lightpathOf, count, different}
@@ -178,30 +177,6 @@ pub record LightpathsHeld (b : Book) : Type 0 where
   pub owners-low : OwnersLow (b .from) (b .to)
   pub route-long : length (b .route) ≡ 2432
 
--- a book by its fields, in the struct's order, and a book with other rows
-abbrev pub remade : ℕ → ℕ → ℕ → ℕ → ℕ → List ℕ → List ℕ → List ℕ → List ℕ → List ℕ → List ℕ → List ℕ → List ℕ → List ℕ → List ℕ → Book
-remade n x p a st l r w f t o e q y z = record {
-  nodes = n;
-  spans = x;
-  lightpaths = p;
-  alternatives = a;
-  stations = st;
-  left = l;
-  right = r;
-  limit = w;
-  from = f;
-  to = t;
-  owner = o;
-  len = e;
-  route = q;
-  low = y;
-  high = z;
-}
-
-abbrev pub withRows : Book → List ℕ → List ℕ → List ℕ → List ℕ → Book
-withRows b len route low high =
-    remade (b .nodes) (b .spans) (b .lightpaths) (b .alternatives) (b .stations) (b .left) (b .right) (b .limit) (b .from) (b .to) (b .owner) len route low high
-
 -- the reader of `book`, cut after each kind of record: what is still to be read
 abbrev pub fromEnd : RouteBook → Reader RouteBook
 fromEnd m = do
@@ -258,10 +233,6 @@ pub record LightpathsRead (b : Book) : Type 0 where
 abbrev pub refusedReply : ℕ → ℕ → Reply
 refusedReply n p = shown (refused n p)
 
--- the bytes x, laid over d from the place `at` on
-abbrev pub laid : List ℕ → ℕ → List ℕ → List ℕ
-laid d at x = paste d at x (length x)
-
 -- b holds a well-formed book
 pub record Held (b : Book) : Type 0 where
   pub book : RouteBook
@@ -276,20 +247,6 @@ Room b at n = (m : RouteBook) → b ≡ bookOf m → at + length (bytesOf lpByte
 abbrev pub withLightpaths : RouteBook → List Lightpath → RouteBook
 withLightpaths m lps = record { nodes = m .nodes; spans = m .spans; lightpaths = lps; alternatives = m .alternatives }
 
--- s are the bytes of the book m, `old` holds m, and `new` holds m with the lightpaths lps, as many as it has
-pub record Rewriting (s : List ℕ) (old new : Book) (m : RouteBook) (lps : List Lightpath) : Type 0 where
-  pub written : s ≡ encode m
-  pub old-is : old ≡ bookOf m
-  pub new-is : new ≡ bookOf (withLightpaths m lps)
-  pub old-fits : wellFormed m ≡ true
-  pub new-fits : wellFormed (withLightpaths m lps) ≡ true
-  pub as-many : length lps ≡ length (m .lightpaths)
-
-pub record Rewrites (s : List ℕ) (old new : Book) : Type 0 where
-  pub book : RouteBook
-  pub lightpaths : List Lightpath
-  pub are : Rewriting s old new book lightpaths
-
 -- the struct b holds the good book m, whose bytes are s; and some good book
 pub record ReadAs (s : List ℕ) (b : Book) (m : RouteBook) : Type 0 where
   pub written : s ≡ encode m
@@ -299,3 +256,15 @@ pub record ReadAs (s : List ℕ) (b : Book) (m : RouteBook) : Type 0 where
 pub record Read (s : List ℕ) (b : Book) : Type 0 where
   pub book : RouteBook
   pub is : ReadAs s b book
+
+-- s are the bytes of the book m, `old` holds m, and `new` holds m with the lightpaths lps, as many as it has
+pub record Rewriting (s : List ℕ) (old new : Book) (m : RouteBook) (lps : List Lightpath) : Type 0 where
+  pub read : ReadAs s old m
+  pub new-is : new ≡ bookOf (withLightpaths m lps)
+  pub new-fits : wellFormed (withLightpaths m lps) ≡ true
+  pub as-many : length lps ≡ length (m .lightpaths)
+
+pub record Rewrites (s : List ℕ) (old new : Book) : Type 0 where
+  pub book : RouteBook
+  pub lightpaths : List Lightpath
+  pub are : Rewriting s old new book lightpaths

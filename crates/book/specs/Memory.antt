@@ -2,6 +2,7 @@
 use Prim.Native.Nat.{ℕ, _+_, _-_, _*_}
 use mathlib.Core.List.{List, [], _∷_, _++_, map}
 use lib.ListN.{length, replicate}
+use lib.Seq.{paste}
 use Rattle.book.specs.Book.{Span, Lightpath, Alternative, RouteBook, mostSpans, mostLightpaths, mostAlternatives, longestRoute, lightpathOf}
 use Rattle.book.specs.Format.{Reading, good, refused}
 use Rattle.book.specs.Bits.{stationSet, spanWord}
@@ -17,6 +18,10 @@ padded n xs = xs ++ replicate (n - length xs) 0
 unfoldable pub rows : ℕ → List (List ℕ) → List ℕ
 rows w [] = []
 rows w (r ∷ rs) = padded w r ++ rows w rs
+
+-- the bytes x, laid over d from the place `at` on
+abbrev pub laid : List ℕ → ℕ → List ℕ → List ℕ
+laid d at x = paste d at x (length x)
 
 -- as many rows as a book can have routes
 abbrev pub mostRoutes : ℕ
@@ -48,6 +53,30 @@ bookOf m = record {
 
 abbrev pub emptyBook : RouteBook
 emptyBook = record { nodes = []; spans = []; lightpaths = []; alternatives = [] }
+
+-- a book by its fields, in the struct's order, and a book with other rows
+abbrev pub remade : ℕ → ℕ → ℕ → ℕ → ℕ → List ℕ → List ℕ → List ℕ → List ℕ → List ℕ → List ℕ → List ℕ → List ℕ → List ℕ → List ℕ → Book
+remade n x p a st l r w f t o e q y z = record {
+  nodes = n;
+  spans = x;
+  lightpaths = p;
+  alternatives = a;
+  stations = st;
+  left = l;
+  right = r;
+  limit = w;
+  from = f;
+  to = t;
+  owner = o;
+  len = e;
+  route = q;
+  low = y;
+  high = z;
+}
+
+abbrev pub withRows : Book → List ℕ → List ℕ → List ℕ → List ℕ → Book
+withRows b len route low high =
+    remade (b .nodes) (b .spans) (b .lightpaths) (b .alternatives) (b .stations) (b .left) (b .right) (b .limit) (b .from) (b .to) (b .owner) len route low high
 
 -- B49: the answer's number and place for each of its cases: 0 and 0 where the book is good
 abbrev pub numberOf : Answer → ℕ

@@ -6,8 +6,7 @@ use mathlib.Core.Bool.{Bool, cond, _&&_}
 use lib.ListN.{length, getD, take, drop, set, replicate}
 use lib.Dec.{eqb, ltb}
 use Rattle.book.specs.Book.{RouteBook, mostLightpaths, mostForOne, mostWithAlternatives, longestRoute}
-use Rattle.book.specs.Memory.{padded, mostRoutes}
-use Rattle.book.specs.Inside.{laid, withRows}
+use Rattle.book.specs.Memory.{padded, mostRoutes, laid, withRows}
 use Rattle.book.specs.Choice.{movable, listed, digits}
 use Rattle.book.specs.declared.Book.{Book}
 use Rattle.book.specs.declared.choice.Movables.{Movables}

@@ -13,8 +13,8 @@ ghost use lib.ListN.{length, drop};
 ghost use Rattle.book.specs.Reader.{each};
 ghost use Rattle.book.specs.Book.{Span, Lightpath, endsOf, every, lightpathFits};
 ghost use Rattle.book.specs.Format.{nd, sp, lp, al};
-ghost use Rattle.book.specs.Memory.{bookOf, emptyBook};
-ghost use Rattle.book.specs.Inside.{Told, HoldsNodes, HoldsSpans, HoldsLightpaths, HoldsAll, partly, SpansHeld, LightpathsHeld, withRows};
+ghost use Rattle.book.specs.Memory.{bookOf, emptyBook, withRows};
+ghost use Rattle.book.specs.Inside.{Told, HoldsNodes, HoldsSpans, HoldsLightpaths, HoldsAll, partly, SpansHeld, LightpathsHeld};
 
 // After the records of a kind: the place of what is due next, and the book with them; or a refusal.
 pub(crate) struct Filled {

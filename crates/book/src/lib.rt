@@ -1,4 +1,5 @@
-// A reader of route books: any bytes in, a book or a numbered refusal out. docs/BOOK.md says what a book is and what each refusal means.
+// Route books: a reader (any bytes in, a book or a numbered refusal out), the choices of a book and their numbers, and a writer of the chosen book.
+// docs/BOOK.md says what each of these is and what each refusal means.
 pub mod choice;
 mod fill;
 mod record;

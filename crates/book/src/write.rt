@@ -11,9 +11,9 @@ ghost use Prim.Native.Nat.{_+_, _≤_};
 ghost use lib.ListN.{length};
 ghost use Rattle.book.specs.Book.{Lightpath, RouteBook, wellFormed};
 ghost use Rattle.book.specs.Format.{LP, recordBytes, bytesOf, lpBytes, encode, good};
-ghost use Rattle.book.specs.Memory.{bookOf};
+ghost use Rattle.book.specs.Memory.{bookOf, laid};
 ghost use Rattle.book.specs.Writing.{fitted, writingOf, writing, writtenOf, buffer};
-ghost use Rattle.book.specs.Inside.{laid, Held, Room, withLightpaths, Rewriting, Rewrites, ReadAs, Read};
+ghost use Rattle.book.specs.Inside.{Held, Room, withLightpaths, Rewriting, Rewrites, ReadAs, Read};
 
 // The writer's answer: how many bytes were written, or a refusal's number and place.
 pub enum Written {

@@ -1,20 +1,16 @@
 // Reads route books as text from standard input, one a line, and prints for each what `book::read` answers: `GOOD nodes spans lightpaths
 // alternatives` or `BAD number place`. A line has the book's bytes, at most 4,096, two lower-case hex digits each, with one blank between; `.` alone
-// is the empty book. A line that starts with `#` and an empty line print nothing, and any other line prints `?`. Input past 262,144 bytes is not read.
+// is the empty book. A line that starts with `w` and a blank, and then has a book, prints the listing of src/choices.rt instead. A line that starts
+// with `#` and an empty line print nothing, and any other line prints `?`. Input past 524,288 bytes is not read.
+mod choices;
+mod hex;
+mod say;
+
 use book::Answer;
 use libc::STDIN_FILENO;
-use libc::STDOUT_FILENO;
-
-// Writes bytes to standard output.
-fn word(b: &[u8]) {
-    io::write_all(STDOUT_FILENO, b);
-}
-
-// Writes a blank and a number in decimal.
-fn number(n: u64) {
-    word(b" ");
-    io::print_decimal(STDOUT_FILENO, n);
-}
+use say::number;
+use say::print_refusal;
+use say::word;
 
 // Reads a book and prints the line of its answer.
 fn print_answer(s: &[u8]) {
@@ -28,29 +24,38 @@ fn print_answer(s: &[u8]) {
             number(reply.book.lightpaths as u64);
             number(reply.book.alternatives as u64);
         }
-        Answer::Refused(no, place) => {
-            word(b"BAD");
-            number(no as u64);
-            number(place as u64);
-        }
+        Answer::Refused(no, place) => print_refusal(no, place),
     }
     word(b"\n");
 }
 
-// Prints the line for the book in the first `n` bytes of `space`, or `?` where it has fewer than `n`.
-fn print_first(space: &[u8], n: usize) {
+// Prints what is asked of a book: its answer, or the listing of its choices.
+fn print_asked(s: &[u8], listing: bool) {
+    if listing {
+        choices::print_book(s);
+    } else {
+        print_answer(s);
+    }
+}
+
+// Prints what is asked of the book in the first `n` bytes of `space`, or `?` where it has fewer than `n`.
+fn print_first(space: &[u8], n: usize, listing: bool) {
     if n <= space.len() {
-        print_answer(&space[0..n]);
+        print_asked(&space[0..n], listing);
     } else {
         word(b"?\n");
     }
 }
 
-// Prints the line for a book in hex.
-fn print_hex_book(line: &[u8]) {
+// Prints what is asked of a book in hex, or of the empty book.
+fn print_book(line: &[u8], listing: bool) {
+    if line.len() == 1 && line[0] == b'.' {
+        print_asked(b"", listing);
+        return;
+    }
     let mut space = io::buffer();
-    let n = hexlines::unhex(line, &mut space);
-    print_first(&space, n);
+    let n = hex::unhex(line, &mut space);
+    print_first(&space, n, listing);
 }
 
 // Prints what one line of the input asks for.
@@ -61,18 +66,18 @@ fn print_line(line: &[u8]) {
     if line[0] == b'#' {
         return;
     }
-    if line.len() == 1 && line[0] == b'.' {
-        print_answer(b"");
+    if line.len() > 2 && line[0] == b'w' && line[1] == b' ' {
+        print_book(&line[2..], true);
         return;
     }
-    print_hex_book(line);
+    print_book(line, false);
 }
 
 // Goes through the lines of the text. The last may have no line end.
 fn print_lines(text: &[u8]) {
     let mut at = 0;
     while at < text.len() {
-        let end = hexlines::line_end(text, at);
+        let end = hex::line_end(text, at);
         print_line(&text[at..end]);
         if end == text.len() {
             return;
@@ -83,7 +88,7 @@ fn print_lines(text: &[u8]) {
 
 // Reads the whole input and goes through it.
 fn main() {
-    let mut text = [0u8; 262144];
+    let mut text = [0u8; 524288];
     let n = io::read_full(STDIN_FILENO, &mut text);
     print_lines(&text[..n]);
 }

@@ -1,3 +1,5 @@
+-- After i movable lightpaths, moving those left in the rows as they now are gives the same as moving all from the start.
+-- What is read of the movable lightpaths and of the digits are bytes, which bounds every sum.
 use mathlib.Core.Path.{_≡_, ap, _∙_}
 use native.Mathlib.Nat.{le-antisymm}
 use Rattle.book.specs.Moving.{withRowsOf, moved}
@@ -11,13 +13,6 @@ use Rattle.book.proofs.Moved.{Moving, moving-start, moving-next, moving
 use borrow.Author.Needs.{needs}
 use Rattle.book.proofs.choice.chosen.Statement.{statement}
 use Rattle.book.proofs.choice.chosen.Tie as tie
-use Rattle.book.proofs.choice.chosen.Reads as reads
-use Rattle.book.proofs.choice.chosen.Lts as lts
-use Rattle.book.proofs.choice.Rows.in_book.Reads as in-book-reads
-use Rattle.book.proofs.choice.Rows.moved.Reads as moved-reads
-use Rattle.book.proofs.choice.Rows.of.Reads as of-reads
-use Rattle.book.proofs.choice.at_most.Reads as at-most-reads
-use Rattle.book.proofs.choice.row_of.Reads as row-of-reads
 
 abbrev Inv-loop : tie.InvT-loop
 Inv-loop b lightpath more digits n listed r₀ first₀ i₀ r first i = Moving listed (b .lightpaths) lightpath more digits n r first i

@@ -1,11 +1,10 @@
+-- By digit 0 the row is the lightpath's own, and else it is found from the first of its alternatives; the code tests the same.
+-- Either is at most 151, the last row.
 use mathlib.Core.Path.{_∙_}
 use borrow.Author.Tests.{ne-eqb}
 use borrow.Author.Needs.{needs}
 use Rattle.book.proofs.choice.row_of.Statement.{statement}
 use Rattle.book.proofs.choice.row_of.Tie as tie
-use Rattle.book.proofs.choice.row_of.Reads as reads
-use Rattle.book.proofs.choice.row_of.Lts as lts
-use Rattle.book.proofs.choice.at_most.Reads as at-most-reads
 
 at-most-requires : tie.Need-at-most-requires
 at-most-requires c κs = search needs

@@ -8,7 +8,7 @@ use Prim.Native.Nat.{ℕ, _+_}
 use lib.ListN.{length}
 use denote.Ref.{now}
 use Rattle.book.specs.Format.{LP, recordBytes}
-use Rattle.book.specs.Inside.{laid}
+use Rattle.book.specs.Memory.{laid}
 use Rattle.book.proofs.Laid.{laid-then}
 use Rattle.book.proofs.write.put_lp.Statement.{statement}
 use Rattle.book.proofs.write.put_lp.Tie as tie

@@ -8,7 +8,8 @@ use Prim.Native.Nat.{ℕ, _+_, _-_, _*_, _≤_}
 use lib.ListN.{length, drop, length-take}
 use denote.Ref.{now}
 use Rattle.book.specs.Format.{bytesOf, lpBytes}
-use Rattle.book.specs.Inside.{laid, withLightpaths}
+use Rattle.book.specs.Memory.{laid}
+use Rattle.book.specs.Inside.{withLightpaths}
 use Rattle.book.proofs.Routes.{part}
 use Rattle.book.proofs.Rewrites.{old-fit, total-low, rewritten, too-short}
 use Rattle.book.proofs.write.rewrite.Statement.{statement}
@@ -20,13 +21,13 @@ module _ (c : tie.After-lightpaths-len) where
   first = 6 + 3 * c .before .before .before .before .before .args .old .nodes + 5 * c .before .before .before .before .before .args .old .spans
 
   fit : first + c .lightpaths-len .result ≤ length (now (c .before .before .before .before .before .args .s))
-  fit = let p = c .before .before .before .before .before .pre in old-fit (p .are) (c .lightpaths-len .ensures (p .book) (p .are .old-is)) refl
+  fit = let p = c .before .before .before .before .before .pre in old-fit (p .are) (c .lightpaths-len .ensures (p .book) (p .are .read .held)) refl
 
 module _ (c : tie.After-lightpaths-len2) where
   low : first (c .before) + c .lightpaths-len2 .result + (length (now (c .before .before .before .before .before .before .args .s)) - (first (c .before) + c .before .lightpaths-len .result)) ≤ 3976
   low =
       let p = c .before .before .before .before .before .before .pre in
-      total-low (p .are) (c .before .lightpaths-len .ensures (p .book) (p .are .old-is)) (c .lightpaths-len2 .ensures (withLightpaths (p .book) (p .lightpaths)) (p .are .new-is))
+      total-low (p .are) (c .before .lightpaths-len .ensures (p .book) (p .are .read .held)) (c .lightpaths-len2 .ensures (withLightpaths (p .book) (p .lightpaths)) (p .are .new-is))
 
 cast-first : tie.Need-cast-first
 cast-first c = search needs
@@ -67,7 +68,7 @@ add-total c = omega (arith, low c)
 returns : tie.Need-returns
 returns c = λ m lps r.
     let i = c .before in
-    too-short r (i .before .lightpaths-len .ensures m (r .old-is)) (i .lightpaths-len2 .ensures (withLightpaths m lps) (r .new-is)) (now (i .before .before .before .before .before .before .args .out)) (c .if1 .taken)
+    too-short r (i .before .lightpaths-len .ensures m (r .read .held)) (i .lightpaths-len2 .ensures (withLightpaths m lps) (r .new-is)) (now (i .before .before .before .before .before .before .args .out)) (c .if1 .taken)
 
 slice-aggregate-put : tie.Need-slice-aggregate-put
 slice-aggregate-put c =
@@ -105,7 +106,7 @@ returns-2 c = λ m lps r.
     let a = i .before .before .before .before .before .before .args in
     let old-end = first (i .before) + i .before .lightpaths-len .result in
     let new-end = first (i .before) + i .lightpaths-len2 .result in
-    let w = rewritten r (i .before .lightpaths-len .ensures m (r .old-is)) (i .lightpaths-len2 .ensures (withLightpaths m lps) (r .new-is)) (now (a .out)) (c .before .before .before .before .before .before .before .before .before .before .before .before .before .before .if1 .left) in (
+    let w = rewritten r (i .before .lightpaths-len .ensures m (r .read .held)) (i .lightpaths-len2 .ensures (withLightpaths m lps) (r .new-is)) (now (a .out)) (c .before .before .before .before .before .before .before .before .before .before .before .before .before .before .if1 .left) in (
       w .0,
       c .before .before .put2 .ensures ∙ ap (laid _ new-end) (part (now (a .s)) old-end)
           ∙ ap (λ (l : List ℕ). laid l new-end (drop old-end (now (a .s)))) (c .before .before .before .before .before .before .before .put-lightpaths .ensures (withLightpaths m lps) (r .new-is) (r .new-fits) ∙ ap (λ (l : List ℕ). laid l (first (i .before)) (bytesOf lpBytes lps)) (c .before .before .before .before .before .before .before .before .before .before .before .put .ensures))

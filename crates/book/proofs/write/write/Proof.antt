@@ -1,3 +1,5 @@
+-- The reply of `read` is a good book, which is then written, or a refusal, which is handed on with nothing written.
+-- Both ways the answer and the buffer are what the reading of the bytes says.
 use native.Mathlib.Omega.{arith}
 use mathlib.Core.Path.{refl}
 use denote.Ref.{now}
@@ -7,9 +9,6 @@ use borrow.Author.Needs.{needs}
 use Rattle.book.proofs.write.write.Statement.{statement}
 use Rattle.book.proofs.write.write.Tie as tie
 use Rattle.book.proofs.write.write.Reads as reads
-use Rattle.book.proofs.write.write.Lts as lts
-use Rattle.book.proofs.read.Reads as read-reads
-use Rattle.book.proofs.write.write_choice.Reads as write-choice-reads
 
 read-requires : tie.Need-read-requires
 read-requires c κs = search needs

@@ -1,3 +1,5 @@
+-- Either there is no such choice, which is refused before anything is written, or the chosen book is written by `rewrite`.
+-- What the struct of the book tells about its choices is what the book says, by the laws of Written.antt.
 use native.Mathlib.Omega.{arith}
 use mathlib.Core.Path.{_≡_, refl, _∙_}
 use lib.ListN.{length}
@@ -7,13 +9,6 @@ use Rattle.book.proofs.Written.{total-is, rewriting, no-such-choice, su
 use borrow.Author.Needs.{needs}
 use Rattle.book.proofs.write.write_choice.Statement.{statement}
 use Rattle.book.proofs.write.write_choice.Tie as tie
-use Rattle.book.proofs.write.write_choice.Reads as reads
-use Rattle.book.proofs.write.write_choice.Lts as lts
-use Rattle.book.proofs.choice.Choice.of.Reads as choice-Choice-of-reads
-use Rattle.book.proofs.choice.Movables.of.Reads as choice-Movables-of-reads
-use Rattle.book.proofs.choice.Movables.total.Reads as total-reads
-use Rattle.book.proofs.choice.chosen.Reads as chosen-reads
-use Rattle.book.proofs.write.rewrite.Reads as rewrite-reads
 
 of-requires : tie.Need-of-requires
 of-requires c κs = search needs

@@ -1,9 +1,8 @@
+-- Both numbers are what `number` says, so the test of the code is that of the contract.
+-- Nothing else is asked.
 use borrow.Author.Needs.{needs}
 use Rattle.book.proofs.choice.Choice.before.Statement.{statement}
 use Rattle.book.proofs.choice.Choice.before.Tie as tie
-use Rattle.book.proofs.choice.Choice.before.Reads as reads
-use Rattle.book.proofs.choice.Choice.before.Lts as lts
-use Rattle.book.proofs.choice.Choice.number.Reads as number-reads
 
 number-requires : tie.Need-number-requires
 number-requires c κs = search needs

@@ -1,3 +1,5 @@
+-- Up to digit i all have gone back to 0, and from there on they are as they were, so stepping those gives the whole.
+-- The first digit with room ends the loop; if none has, all are 0.
 use mathlib.Core.Path.{ap}
 use mathlib.Core.List.{List}
 use mir.Syntax.{w8}
@@ -10,9 +12,6 @@ use Rattle.book.proofs.Digits.{Stepping, stepping-start, stepping-hit, 
 use borrow.Author.Needs.{needs}
 use Rattle.book.proofs.choice.Choice.next.Statement.{statement}
 use Rattle.book.proofs.choice.Choice.next.Tie as tie
-use Rattle.book.proofs.choice.Choice.next.Reads as reads
-use Rattle.book.proofs.choice.Choice.next.Lts as lts
-use Rattle.book.proofs.choice.size.Reads as size-reads
 
 abbrev Inv-loop : tie.InvT-loop
 Inv-loop more c₀ i₀ c i = Stepping more (c₀ .digits) (c .digits) i

@@ -1,3 +1,5 @@
+-- After i digits, the sum so far and the sum of those left, with the weight of digit i, make the number.
+-- The weight is at most 8 to the power i and a digit is a byte, which bounds the sum.
 use Prim.Native.Nat.{_-_, _*_, _^_, _≤_}
 use mir.Syntax.{w8}
 use mir.Val.{Fits}
@@ -8,9 +10,6 @@ use Rattle.book.proofs.Digits.{Weighing, weighing-start, weighing-next,
 use borrow.Author.Needs.{needs}
 use Rattle.book.proofs.choice.Choice.number.Statement.{statement}
 use Rattle.book.proofs.choice.Choice.number.Tie as tie
-use Rattle.book.proofs.choice.Choice.number.Reads as reads
-use Rattle.book.proofs.choice.Choice.number.Lts as lts
-use Rattle.book.proofs.choice.size.Reads as size-reads
 
 abbrev Inv-loop : tie.InvT-loop
 Inv-loop more digits n₀ weight₀ i₀ n weight i = Weighing more digits n weight i

@@ -1,3 +1,5 @@
+-- After i digits, those found and the digits of what is left of the number make the digits of the number.
+-- A remainder by a size is below 8, so it is a byte.
 use mathlib.Core.Path.{ap}
 use mathlib.Core.List.{List}
 use Prim.Native.Nat.{ℕ, _-_}
@@ -8,9 +10,6 @@ use Rattle.book.proofs.Digits.{Splitting, splitting-start, splitting-ne
 use borrow.Author.Needs.{needs}
 use Rattle.book.proofs.choice.Choice.of.Statement.{statement}
 use Rattle.book.proofs.choice.Choice.of.Tie as tie
-use Rattle.book.proofs.choice.Choice.of.Reads as reads
-use Rattle.book.proofs.choice.Choice.of.Lts as lts
-use Rattle.book.proofs.choice.size.Reads as size-reads
 
 abbrev Inv-loop : tie.InvT-loop
 Inv-loop n more digits₀ rest₀ i₀ digits rest i = Splitting more n digits rest i

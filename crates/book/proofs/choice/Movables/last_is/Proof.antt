@@ -1,10 +1,10 @@
+-- Where none is found yet there is no last one; else it stands one before the count.
+-- The test of the definition comes out the same way in both cases.
 use native.Mathlib.Omega.{arith}
 use borrow.Author.Tests.{lt-ltb}
 use borrow.Author.Needs.{needs}
 use Rattle.book.proofs.choice.Movables.last_is.Statement.{statement}
 use Rattle.book.proofs.choice.Movables.last_is.Tie as tie
-use Rattle.book.proofs.choice.Movables.last_is.Reads as reads
-use Rattle.book.proofs.choice.Movables.last_is.Lts as lts
 
 cast-n : tie.Need-cast-n
 cast-n c = search needs

@@ -1,3 +1,5 @@
+-- After j alternatives, gathering those left gives the same as gathering all from none.
+-- The array has 56 places, so that a count above 56 changes nothing.
 use mathlib.Core.Path.{ap, _∙_}
 use native.Mathlib.Nat.{le-antisymm}
 use native.Mathlib.Omega.{arith}
@@ -7,10 +9,6 @@ use Rattle.book.proofs.Movables.{Gathering, gathering-start, gathering-
 use borrow.Author.Needs.{needs}
 use Rattle.book.proofs.choice.Movables.of.Statement.{statement}
 use Rattle.book.proofs.choice.Movables.of.Tie as tie
-use Rattle.book.proofs.choice.Movables.of.Reads as reads
-use Rattle.book.proofs.choice.Movables.of.Lts as lts
-use Rattle.book.proofs.choice.Movables.with_one.Reads as with-one-reads
-use Rattle.book.proofs.choice.at_most.Reads as at-most-reads
 
 abbrev Inv-loop : tie.InvT-loop
 Inv-loop owner n w₀ j₀ w j = Gathering owner n w j

@@ -1,16 +1,13 @@
+-- After i sizes, the product so far times the product of those left is the product of all.
+-- It is at most 8 to the power i, so that no step leaves 32 bits.
 use native.Mathlib.Nat.{le-antisymm}
 use native.Mathlib.Omega.{arith}
 use lib.ListN.{getD}
 use Prim.Native.Nat.{_-_}
-use mathlib.Core.Path.{_≡_}
-use lib.ListN.{length}
 use Rattle.book.proofs.Digits.{Multiplied, multiplied-start, multiplied-next, multiplied-end, times-size, size-most}
 use borrow.Author.Needs.{needs}
 use Rattle.book.proofs.choice.Movables.total.Statement.{statement}
 use Rattle.book.proofs.choice.Movables.total.Tie as tie
-use Rattle.book.proofs.choice.Movables.total.Reads as reads
-use Rattle.book.proofs.choice.Movables.total.Lts as lts
-use Rattle.book.proofs.choice.size.Reads as size-reads
 
 abbrev Inv-loop : tie.InvT-loop
 Inv-loop more t₀ i₀ t i = Multiplied more t i

@@ -1,3 +1,5 @@
+-- The last stands one before the count, and one more than it has is at most seven or counts as seven.
+-- All else of the struct is as it was, which is what the definition says.
 use Prim.Native.Nat.{_-_}
 use mir.Syntax.{w8}
 use mir.Val.{Fits}
@@ -6,9 +8,6 @@ use native.Mathlib.Omega.{arith}
 use borrow.Author.Needs.{needs}
 use Rattle.book.proofs.choice.Movables.with_more.Statement.{statement}
 use Rattle.book.proofs.choice.Movables.with_more.Tie as tie
-use Rattle.book.proofs.choice.Movables.with_more.Reads as reads
-use Rattle.book.proofs.choice.Movables.with_more.Lts as lts
-use Rattle.book.proofs.choice.most_for_one.Reads as most-for-one-reads
 
 cast-last : tie.Need-cast-last
 cast-last c = search needs

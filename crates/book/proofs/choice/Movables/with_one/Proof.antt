@@ -1,13 +1,10 @@
-use mathlib.Core.Path.{_≡_, sym, _∙_}
+-- Three cases, as the definition has them: the lightpath found last, a new one, or a ninth, which is passed over.
+-- Each returns what its law in Movables.antt says.
+use mathlib.Core.Path.{sym, _∙_}
 use Rattle.book.proofs.Movables.{last-some, with-last, with-first, with-ninth}
 use borrow.Author.Needs.{needs}
 use Rattle.book.proofs.choice.Movables.with_one.Statement.{statement}
 use Rattle.book.proofs.choice.Movables.with_one.Tie as tie
-use Rattle.book.proofs.choice.Movables.with_one.Reads as reads
-use Rattle.book.proofs.choice.Movables.with_one.Lts as lts
-use Rattle.book.proofs.choice.Movables.last_is.Reads as last-is-reads
-use Rattle.book.proofs.choice.Movables.with_more.Reads as with-more-reads
-use Rattle.book.proofs.choice.Movables.with_new.Reads as with-new-reads
 
 last-is-requires : tie.Need-last-is-requires
 last-is-requires c κs = search needs

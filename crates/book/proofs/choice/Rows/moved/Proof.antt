@@ -1,3 +1,5 @@
+-- The sixteen places of a row are lent from the routes listed and laid over row `to`; the three arrays take one number each.
+-- Row `to` is one of the first 96 and row `from` one of the 152, so all is in range.
 use Prim.Native.Nat.{_+_, _-_, _*_}
 use Rattle.book.proofs.Routes.{lent}
 use mathlib.Core.Path.{_≡_}
@@ -6,9 +8,6 @@ use lib.ListN.{length, drop, length-take}
 use borrow.Author.Needs.{needs}
 use Rattle.book.proofs.choice.Rows.moved.Statement.{statement}
 use Rattle.book.proofs.choice.Rows.moved.Tie as tie
-use Rattle.book.proofs.choice.Rows.moved.Reads as reads
-use Rattle.book.proofs.choice.Rows.moved.Lts as lts
-use Rattle.book.proofs.write.put.Reads as put-reads
 
 mul-start : tie.Need-mul-start
 mul-start c = search needs
