@@ -4,11 +4,12 @@ use Prim.Native.Nat.{ℕ}
 use mathlib.Core.Path.{_≡_, refl}
 use mathlib.Core.List.{List, [], _∷_, _++_}
 use mathlib.Core.Bool.{true}
-use lib.ListN.{take, drop}
+use lib.ListN.{length, take, drop}
 use Rattle.book.specs.Reader.{each, opened}
 use Rattle.book.specs.Book.{Span, Lightpath, RouteBook, below, every, count, different, some, spanEnds, lightpathEnds, lengthFits, walks, follows, wellFormed}
 use Rattle.book.specs.Memory.{padded}
-use Rattle.book.specs.Choice.{movableFrom, movable, sizes, product, choices, weighed, number, digits, alternativesOf, digitFor, rerouted, chosen}
+use Rattle.book.specs.Choice.{owners, movableFrom, movable, sizes, product, choices, weighed, number, digits, alternativesOf, digitFor, rerouted, chosen}
+use Rattle.book.specs.Writing.{served, denied, writing}
 use Rattle.book.specs.Format.{bytesOf, encode, book, good, refused, reading}
 
 -- docs/BOOK.md, the example book E
@@ -65,11 +66,14 @@ pub every-row : (reading [] ≡ refused 1 0) × (reading (0x48 ∷ 0x44 ∷ []) 
 unfolding reading book each opened below some count different walks lengthFits spanEnds lightpathEnds follows
 every-row = (refl, refl, refl, refl, refl, refl, refl, refl, refl, refl, refl, refl, refl, refl)
 
--- the choices of E: two, and choice 1 is written in 74 bytes
-pub e-choices : (choices example ≡ 2) × (movable example ≡ 3 ∷ []) × (digits (sizes example) 1 ≡ 1 ∷ 0 ∷ 0 ∷ 0 ∷ 0 ∷ 0 ∷ 0 ∷ 0 ∷ []) × (encode (chosen example 0) ≡ E)
-    × (encode (chosen example 1) ≡ take 61 E ++ (0x4c ∷ 0x50 ∷ 3 ∷ 0 ∷ 1 ∷ 3 ∷ drop 68 E))
-unfolding count movableFrom padded product digits digitFor alternativesOf rerouted encode bytesOf
-e-choices = (refl, refl, refl, refl, refl)
+-- the choices of E: two, and choice 1 is written in 74 bytes; 73 are too few, and there is no choice 2
+abbrev E1 : List ℕ
+E1 = take 61 E ++ (0x4c ∷ 0x50 ∷ 3 ∷ 0 ∷ 1 ∷ 3 ∷ drop 68 E)
+
+pub e-choices : (choices example ≡ 2) × (movable example ≡ 3 ∷ []) × (digits (sizes example) 1 ≡ 1 ∷ 0 ∷ 0 ∷ 0 ∷ 0 ∷ 0 ∷ 0 ∷ 0 ∷ [])
+    × (writing E 0 75 ≡ served E) × (writing E 1 74 ≡ served E1) × (writing E 1 73 ≡ denied 11 0) × (writing E 2 0 ≡ denied 12 0) × (writing [] 2 0 ≡ denied 1 0)
+unfolding reading book each opened below some different walks lengthFits spanEnds lightpathEnds follows count movableFrom padded product digits digitFor alternativesOf rerouted encode bytesOf
+e-choices = (refl, refl, refl, refl, refl, refl, refl, refl)
 
 -- a route listed twice: three choices, of which two make the same book
 abbrev twice : RouteBook
@@ -80,11 +84,13 @@ twice = record {
   alternatives = record { lightpath = 3; route = record { spans = 3 ∷ [] } } ∷ record { lightpath = 3; route = record { spans = 3 ∷ [] } } ∷ [];
 }
 
-pub listed-twice : (choices twice ≡ 3) × (number (sizes twice) (1 ∷ 0 ∷ 0 ∷ 0 ∷ 0 ∷ 0 ∷ 0 ∷ 0 ∷ []) ≡ 1) × (number (sizes twice) (2 ∷ 0 ∷ 0 ∷ 0 ∷ 0 ∷ 0 ∷ 0 ∷ 0 ∷ []) ≡ 2) × (chosen twice 1 ≡ chosen twice 2)
-unfolding count movableFrom padded product weighed digits digitFor alternativesOf rerouted
-listed-twice = (refl, refl, refl, refl)
+pub listed-twice : (wellFormed twice ≡ true) × (choices twice ≡ 3) × (number (sizes twice) (1 ∷ 0 ∷ 0 ∷ 0 ∷ 0 ∷ 0 ∷ 0 ∷ 0 ∷ []) ≡ 1)
+    × (number (sizes twice) (2 ∷ 0 ∷ 0 ∷ 0 ∷ 0 ∷ 0 ∷ 0 ∷ 0 ∷ []) ≡ 2) × (chosen twice 1 ≡ chosen twice 2)
+unfolding wellFormed every below some different walks lengthFits spanEnds lightpathEnds follows count movableFrom padded product weighed digits digitFor alternativesOf rerouted
+listed-twice = (refl, refl, refl, refl, refl)
 
--- the numbering of docs/BOOK.md's second example: sizes 2 3 2, of which choice 7 is 1 0 1
-pub seventh : (digits (2 ∷ 3 ∷ 2 ∷ 1 ∷ 1 ∷ 1 ∷ 1 ∷ 1 ∷ []) 7 ≡ 1 ∷ 0 ∷ 1 ∷ 0 ∷ 0 ∷ 0 ∷ 0 ∷ 0 ∷ []) × (product (2 ∷ 3 ∷ 2 ∷ 1 ∷ 1 ∷ 1 ∷ 1 ∷ 1 ∷ []) ≡ 12)
-unfolding digits product
-seventh = (refl, refl)
+-- docs/BOOK.md's second example, in any book with ten lightpaths whose alternatives are for lightpaths 2, 5, 5 and 9
+pub seventh : (m : RouteBook) → length (m .lightpaths) ≡ 10 → owners m ≡ 2 ∷ 5 ∷ 5 ∷ 9 ∷ []
+    → (sizes m ≡ 2 ∷ 3 ∷ 2 ∷ 1 ∷ 1 ∷ 1 ∷ 1 ∷ 1 ∷ []) × (choices m ≡ 12) × (digits (sizes m) 7 ≡ 1 ∷ 0 ∷ 1 ∷ 0 ∷ 0 ∷ 0 ∷ 0 ∷ 0 ∷ [])
+unfolding count movableFrom padded product digits
+seventh m e f = rw (e, f) (refl, refl, refl)

@@ -8,7 +8,7 @@ use native.Mathlib.Nat.{mul-le-mul, pow-succ', mod-self, mod-eq-of-lt}
 use native.Mathlib.Omega.{arith}
 use lib.ListN.{length, getD, length-map}
 use Rattle.book.specs.Book.{RouteBook, count, wellFormed}
-use Rattle.book.specs.Choice.{owners, movable, listed, sizes, valid, product, choices, number, digits, stepped}
+use Rattle.book.specs.Choice.{owners, movable, alternativesEach, sizes, valid, product, choices, number, digits, stepped}
 use Rattle.book.specs.Moving.{movablesOf, capped, sizesIn}
 use Rattle.book.proofs.Padded.{padded-long, padded-at}
 use Rattle.book.proofs.Numbering.{product-pos, number-of, number-below, digits-valid, digits-of, step-number}
@@ -33,24 +33,24 @@ product-most (w ∷ ws) h =
     omega (arith, a, pow-succ' 8 (length ws))
 
 module _ (m : RouteBook) (w : wellFormed m ≡ true) where
-  listed-most : (i : ℕ) → getD (listed m) i 0 ≤ 7
+  listed-most : (i : ℕ) → getD (alternativesEach m) i 0 ≤ 7
   listed-most i = omega (arith, padded-at 8 (map (λ k. count k (owners m)) (movable m)) i, map-most (λ k. count k (owners m)) (seven-most m w) (movable m) i)
 
   pub eight-digits : length (sizes m) ≡ 8
   eight-digits =
-      length-map (listed m) suc ∙ padded-long 8 (map (λ k. count k (owners m)) (movable m)) (omega (arith, eight-most m w, length-map (movable m) (λ k. count k (owners m))))
+      length-map (alternativesEach m) suc ∙ padded-long 8 (map (λ k. count k (owners m)) (movable m)) (omega (arith, eight-most m w, length-map (movable m) (λ k. count k (owners m))))
 
   -- the struct tells the sizes
   pub sizes-in : sizesIn (movablesOf m) ≡ sizes m
-  sizes-in = capped-same (listed m) listed-most
+  sizes-in = capped-same (alternativesEach m) listed-most
 
   pub choices-some : 1 ≤ choices m
   choices-some = product-pos (sizes m) (sizes-above m)
 
   pub choices-most : choices m ≤ 16777216
   choices-most =
-      let e : length (listed m) ≡ 8 = sym (length-map (listed m) suc) ∙ eight-digits in
-      omega (arith, product-most (listed m) listed-most, ap (λ (n : ℕ). 8 ^ n) e)
+      let e : length (alternativesEach m) ≡ 8 = sym (length-map (alternativesEach m) suc) ∙ eight-digits in
+      omega (arith, product-most (alternativesEach m) listed-most, ap (λ (n : ℕ). 8 ^ n) e)
 
 -- from number to digits and back, and from digits to number and back
 module _ (m : RouteBook) where

@@ -11,7 +11,7 @@ use borrow.Author.Tests.{eqb-true, ltb-true}
 use Rattle.book.specs.Book.{Span, Route, Ends, Lightpath, Alternative, RouteBook, every, count, endsOf, endsAt, lightpathOf, follows, lightpathEnds, countsFit, routeFits, lightpathFits, alternativeFits, wellFormed}
 use Rattle.book.specs.Format.{encode, good, reading}
 use Rattle.book.specs.Memory.{padded}
-use Rattle.book.specs.Choice.{owners, movable, listed, sizes, valid, digits, noRoute, lightpathAt, alternativesOf, routesFor, digitFor, routeBy, rerouted, chosenBy, chosen}
+use Rattle.book.specs.Choice.{owners, movable, alternativesEach, sizes, valid, digits, noRoute, lightpathAt, alternativesOf, routesFor, digitFor, routeBy, rerouted, chosenBy, chosen}
 use Rattle.book.proofs.Tests.{and-inv, and-both}
 use Rattle.book.proofs.Parts.{Parts, parts, whole}
 use Rattle.book.proofs.Format.{reading-back}
@@ -25,7 +25,7 @@ sizes-of [] = tt
 sizes-of (w ∷ ws) = (omega arith, sizes-of ws)
 
 pub sizes-above : (m : RouteBook) → Sizes (sizes m)
-sizes-above m = sizes-of (listed m)
+sizes-above m = sizes-of (alternativesEach m)
 
 -- a digit is at most the number of alternatives of its lightpath
 digit-most : (c : ℕ → ℕ) (vs t ds : List ℕ) (k : ℕ) → valid (map suc (map c vs ++ t)) ds ≡ true → digitFor vs ds k ≤ c k

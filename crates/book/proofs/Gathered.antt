@@ -15,7 +15,7 @@ use Rattle.book.specs.Book.{Span, Ends, Alternative, RouteBook, endsOf, 
 use Rattle.book.specs.Memory.{padded, bookOf}
 use Rattle.book.specs.Inside.{heldFor, TallyOf}
 use Rattle.book.specs.Choice.{owners, movableFrom, movable}
-use Rattle.book.specs.Moving.{movablesOf, noMovables, lastIs, oneMore, newOne, withOne, gathered, movablesIn}
+use Rattle.book.specs.Moving.{movablesOf, noMovables, lastIs, withMore, withNew, withOne, gathered, movablesIn}
 use Rattle.book.specs.declared.choice.Movables.{Movables}
 use Rattle.book.proofs.Tests.{and-inv}
 use Rattle.book.proofs.Parts.{parts}
@@ -129,14 +129,14 @@ module _ (ms cs : List ℕ) (k : ℕ) where
       go (yes l) = rw (lt-ltb 0 (length ms) l, padded-at 8 ms (length ms - 1)) (ne-eqb (getD ms (length ms - 1) 0) k (λ e. omega (arith, h (length ms - 1) (omega arith))))
       go (no l) = rw (le-ltb 0 (length ms) (omega arith))
 
-  held-more : (c : ℕ) → length cs ≡ length ms → c < 7 → oneMore (heldBy (ms ++ k ∷ []) (cs ++ c ∷ [])) ≡ heldBy (ms ++ k ∷ []) (cs ++ (c + 1) ∷ [])
+  held-more : (c : ℕ) → length cs ≡ length ms → c < 7 → withMore (heldBy (ms ++ k ∷ []) (cs ++ c ∷ [])) ≡ heldBy (ms ++ k ∷ []) (cs ++ (c + 1) ∷ [])
   held-more c e l =
       let at : length (ms ++ k ∷ []) - 1 ≡ length cs = last-at ∙ sym e in
       let up : min (c + 1) 7 ≡ c + 1 = omega arith in
       let is : getD (padded 8 (cs ++ c ∷ [])) (length cs) 0 ≡ c = padded-at 8 (cs ++ c ∷ []) (length cs) ∙ getD-append-seam cs c [] 0 in
       ap (λ (x : List ℕ). record { count = length (ms ++ k ∷ []); lightpath = padded 8 (ms ++ k ∷ []); more = x }) (rw (at, is, up) (padded-last 8 cs c (c + 1)))
 
-  held-new : length cs ≡ length ms → length ms < 8 → newOne (heldBy ms cs) k ≡ heldBy (ms ++ k ∷ []) (cs ++ 1 ∷ [])
+  held-new : length cs ≡ length ms → length ms < 8 → withNew (heldBy ms cs) k ≡ heldBy (ms ++ k ∷ []) (cs ++ 1 ∷ [])
   held-new e l =
       let n : length ms + 1 ≡ length (ms ++ k ∷ []) = omega (arith, length-append ms (k ∷ [])) in
       λ i. record { count = n i; lightpath = padded-set 8 (length ms) ms k refl l i; more = padded-set 8 (length ms) cs 1 e l i }

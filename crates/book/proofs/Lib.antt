@@ -34,6 +34,6 @@ pub mod Rewrites
 pub mod Placed
 pub mod Choices
 pub mod Written
-pub mod ReadBack
 pub mod Unique
+pub mod ReadBack
 pub mod Cards

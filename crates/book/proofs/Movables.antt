@@ -11,7 +11,7 @@ use lib.ListN.{length, getD, take, drop, drop-of-length-le, length-take}
 use lib.Seq.{drop-cons, getD-take, take-all, length-take-le}
 use lib.Dec.{ltb}
 use borrow.Author.Tests.{lt-ltb, le-ltb, ltb-true}
-use Rattle.book.specs.Moving.{noMovables, lastIs, oneMore, newOne, withOne, gathered}
+use Rattle.book.specs.Moving.{noMovables, lastIs, withMore, withNew, withOne, gathered}
 use Rattle.book.specs.declared.choice.Movables.{Movables}
 use Rattle.book.proofs.Tests.{and-inv}
 
@@ -19,11 +19,11 @@ module _ (w : Movables) (k : ℕ) where
   pub last-some : lastIs w k ≡ true → 0 < w .count
   last-some e = ltb-true 0 (w .count) (and-inv {a = ltb 0 (w .count)} e .0)
 
-  pub with-last : lastIs w k ≡ true → withOne w k ≡ oneMore w
+  pub with-last : lastIs w k ≡ true → withOne w k ≡ withMore w
   unfolding withOne
   with-last e = rw e
 
-  pub with-first : lastIs w k ≡ false → w .count < 8 → withOne w k ≡ newOne w k
+  pub with-first : lastIs w k ≡ false → w .count < 8 → withOne w k ≡ withNew w k
   unfolding withOne
   with-first e l = rw (e, lt-ltb (w .count) 8 l)
 
@@ -35,7 +35,7 @@ module _ (w : Movables) (k : ℕ) where
   unfolding withOne
   with-few l = go (lastIs w k) (ltb (w .count) 8) refl
     where
-      go : (s t : Bool) → ltb (w .count) 8 ≡ t → (cond s (oneMore w) (cond t (newOne w k) w)) .count ≤ 8
+      go : (s t : Bool) → ltb (w .count) 8 ≡ t → (cond s (withMore w) (cond t (withNew w k) w)) .count ≤ 8
       go true t e = l
       go false true e = omega (arith, ltb-true (w .count) 8 e)
       go false false e = l

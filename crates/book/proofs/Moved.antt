@@ -25,7 +25,7 @@ module _ (listed : Rows) (start : ℕ) (ks ws ds : List ℕ) where
   head i xs = let z : i + 0 ≡ i = omega arith in getD-drop i xs 0 0 ∙ ap (λ (k : ℕ). getD xs k 0) z
 
   pub moving-next : {n : ℕ} {r : Rows} {first i : ℕ} → Moving n r first i → i < n → getD ws i 0 ≤ 255
-      → Moving n (movedRow listed r (min (getD ks i 0) 95) (rowOf (getD ks i 0) first (getD ds i 0))) (first + getD ws i 0) (i + 1)
+      → Moving n (movedRow listed r (min (getD ks i 0) 95) (rowOf (min (getD ks i 0) 95) first (getD ds i 0))) (first + getD ws i 0) (i + 1)
   unfolding moved
   moving-next {n} {r} {first} {i} h l q =
       let cut = taken-next n ks i (omega (arith, h .long, h .eight)) l in
@@ -36,7 +36,7 @@ module _ (listed : Rows) (start : ℕ) (ks ws ds : List ℕ) where
         near = omega (arith, h .near);
         left =
             (λ j. moved listed (first + sym (head i ws) j) (drop (i + 1) (take n ks)) (sym (drop-drop 1 i ws) j) (sym (drop-drop 1 i ds) j)
-            (movedRow listed r (min (getD ks i 0) 95) (rowOf (getD ks i 0) first (sym (head i ds) j))))
+            (movedRow listed r (min (getD ks i 0) 95) (rowOf (min (getD ks i 0) 95) first (sym (head i ds) j))))
             ∙ ap (λ (x : List ℕ). moved listed first x (drop i ws) (drop i ds) r) (sym cut) ∙ h .left;
       }
 

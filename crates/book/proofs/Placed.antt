@@ -13,7 +13,7 @@ use lib.Seq.{set-append-left, getD-set-same, getD-set-other, getD-append-add, ex
 use lib.Dec.{eqb, ltb}
 use borrow.Author.Tests.{eq-eqb, ne-eqb, lt-ltb}
 use Rattle.book.specs.Book.{Span, Route, Ends, Lightpath, RouteBook, count, lightpathOf, wellFormed}
-use Rattle.book.specs.Choice.{owners, movableFrom, movable, listed, sizes, valid, noRoute, routesFor, digitFor, routeBy, rerouted, chosenBy}
+use Rattle.book.specs.Choice.{owners, movableFrom, movable, alternativesEach, sizes, valid, noRoute, routesFor, digitFor, routeBy, rerouted, chosenBy}
 use Rattle.book.specs.Bits.{stationSet, spanWord, wordInto}
 use Rattle.book.specs.Memory.{padded, rows, routesOf, bookOf, laid, remade}
 use Rattle.book.specs.Moving.{movablesOf, rowOf, movedRow, moved, withRowsOf, chosenIn}
@@ -114,7 +114,7 @@ moved-rows listed first p (k ∷ ks) ws ds rs q s few within low =
     let is : min k 95 ≡ k = omega (arith, low 0 (omega arith)) in
     let l : k < length rs = omega (arith, low 0 (omega arith)) in
     ap (moved (rowsOf listed) (first + getD ws 0 0) ks (drop 1 ws) (drop 1 ds))
-    (ap (λ (x : ℕ). movedRow (rowsOf listed) (rowsOf rs) x (rowOf k first (getD ds 0 0))) is ∙ moved-row listed rs k (rowOf k first (getD ds 0 0)) q s l (omega arith))
+    (ap (λ (x : ℕ). movedRow (rowsOf listed) (rowsOf rs) x (rowOf x first (getD ds 0 0))) is ∙ moved-row listed rs k (rowOf k first (getD ds 0 0)) q s l (omega arith))
     ∙ moved-rows listed (first + getD ws 0 0) p ks (drop 1 ws) (drop 1 ds) (set rs k r) q (short-set rs k r s (q (rowOf k first (getD ds 0 0))) l) few (omega (arith, length-set rs k r))
     (λ i h. low (suc i) (omega arith))
 
@@ -270,7 +270,7 @@ module _ (m : RouteBook) (ds : List ℕ) (w : wellFormed m ≡ true) (v : valid 
           ∙ ap (λ (i : ℕ). getD all i []) e ∙ getD-append-add (map routeOf (m .lightpaths)) (map altRoute (m .alternatives)) (j - length (m .lightpaths)) []
           ∙ sym (ap (λ (i : ℕ). getD chosenRoutes i []) f ∙ getD-append-add (map routeOf (rerouted (routeBy m ds) 0 (m .lightpaths))) (map altRoute (m .alternatives)) (j - length (m .lightpaths)) [])
 
-  all-moved : movedIn all (length (m .lightpaths)) (movable m) (listed m) ds all ≡ chosenRoutes
+  all-moved : movedIn all (length (m .lightpaths)) (movable m) (alternativesEach m) ds all ≡ chosenRoutes
   unfolding padded
   all-moved =
       let p = length (m .lightpaths) in
@@ -279,8 +279,8 @@ module _ (m : RouteBook) (ds : List ℕ) (w : wellFormed m ≡ true) (v : valid 
       ∙ ap (λ (n : ℕ). n + length (map altRoute (m .alternatives))) (length-map (m .lightpaths) routeOf ∙ sym (length-map (rerouted (routeBy m ds) 0 (m .lightpaths)) routeOf ∙ length-rerouted (routeBy m ds) 0 (m .lightpaths)))
       ∙ sym (length-append (map routeOf (rerouted (routeBy m ds) 0 (m .lightpaths))) (map altRoute (m .alternatives)))
       in
-      ap (λ (x : ℕ). movedIn all x (movable m) (listed m) ds all) z
-      ∙ ext-getD [] _ chosenRoutes (length-moved all (p + lower 0 (owners m)) (movable m) (listed m) ds all ∙ long) (λ j l. each j)
+      ap (λ (x : ℕ). movedIn all x (movable m) (alternativesEach m) ds all) z
+      ∙ ext-getD [] _ chosenRoutes (length-moved all (p + lower 0 (owners m)) (movable m) (alternativesEach m) ds all ∙ long) (λ j l. each j)
 
   -- THE LAW
   pub chosen-in : chosenIn (bookOf m) (movablesOf m) (record { digits = ds }) ≡ bookOf (chosenBy m ds)
@@ -291,9 +291,9 @@ module _ (m : RouteBook) (ds : List ℕ) (w : wellFormed m ≡ true) (v : valid 
       let n : min (length (movable m)) 8 ≡ length (movable m) = omega (arith, eight-most m w) in
       let ks : take (min (length (movable m)) 8) (padded 8 (movable m)) ≡ movable m = ap (λ (x : ℕ). take x (padded 8 (movable m))) n ∙ take-at (movable m) _ (length (movable m)) refl in
       let within : p ≤ length all = omega (arith, length-append (map routeOf (m .lightpaths)) (map altRoute (m .alternatives)), length-map (m .lightpaths) routeOf) in
-      let rows-are : moved (rowsOf all) p (take (min (length (movable m)) 8) (padded 8 (movable m))) (listed m) ds (rowsOf all) ≡ rowsOf chosenRoutes =
-      ap (λ (x : List ℕ). moved (rowsOf all) p x (listed m) ds (rowsOf all)) ks
-      ∙ moved-rows all p p (movable m) (listed m) ds all (routes-short m w) (routes-short m w) (few .0) within (movable-each {P = λ j. j < p} (owners m) 0 p (λ j l u. omega arith))
+      let rows-are : moved (rowsOf all) p (take (min (length (movable m)) 8) (padded 8 (movable m))) (alternativesEach m) ds (rowsOf all) ≡ rowsOf chosenRoutes =
+      ap (λ (x : List ℕ). moved (rowsOf all) p x (alternativesEach m) ds (rowsOf all)) ks
+      ∙ moved-rows all p p (movable m) (alternativesEach m) ds all (routes-short m w) (routes-short m w) (few .0) within (movable-each {P = λ j. j < p} (owners m) 0 p (λ j l u. omega arith))
       ∙ ap rowsOf all-moved
       in
       ap (withRowsOf (bookOf m)) rows-are

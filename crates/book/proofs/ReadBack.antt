@@ -1,7 +1,7 @@
 -- THE WRITER: what it answers, case by case, and the read-back: what is written reads as good, and its choice 0 has the routes of the choice.
 -- The chosen book is well formed, so the law of the format says all that there is to say about its bytes.
 use Prim.Native.Nat.{ℕ, _≤_, _<_}
-use mathlib.Core.Path.{_≡_, refl, ap, _∙_}
+use mathlib.Core.Path.{_≡_, refl, sym, ap, ap₂, _∙_}
 use mathlib.Core.List.{List}
 use mathlib.Core.Bool.{Bool, true, false, cond}
 use native.Mathlib.Omega.{arith}
@@ -12,11 +12,14 @@ use borrow.Author.Tests.{ltb-true, ltb-false, leb-true, leb-false, lt-leb, le-le
 use Rattle.book.specs.Book.{RouteBook, wellFormed}
 use Rattle.book.specs.Format.{encode, Reading, good, refused, reading}
 use Rattle.book.specs.Choice.{sizes, choices, product, digits, routeBy, chosen}
-use Rattle.book.specs.Writing.{Writing, served, denied, fitted, writingOf, writing, buffer}
+use Rattle.book.specs.Writing.{Writing, served, denied, fitted, writingOf, writing, buffer, writtenNumber, writtenPlace, writtenLength, writtenOf}
+use Rattle.book.specs.declared.write.Written.{Written}
+use Rattle.book.specs.declared.write.Written.the-variants.{Length, Refused}
 use Rattle.book.proofs.Readers.{Bytes}
 use Rattle.book.proofs.Format.{reading-only}
 use Rattle.book.proofs.Longest.{longest}
 use Rattle.book.proofs.Numbering.{digits-valid}
+use Rattle.book.proofs.Unique.{refused-within}
 use Rattle.book.proofs.Chosen.{sizes-above, chosen-fits, chosen-sizes, chosen-none, chosen-zero, chosen-reads}
 use Rattle.book.proofs.Choices.{choices-some}
 use Rattle.book.proofs.Written.{no-such-choice, such-a-choice}
@@ -101,3 +104,55 @@ pub buffer-served : (w out : List ℕ) → length w ≤ length out
     → (length (buffer (served w) out) ≡ length out) × (take (length w) (buffer (served w) out) ≡ w) × (drop (length w) (buffer (served w) out) ≡ drop (length w) out)
 buffer-served w out l =
     (length-append w (drop (length w) out) ∙ omega (arith, length-drop (length w) out), take-append-seam w (drop (length w) out), drop-append-seam w (drop (length w) out))
+
+-- END TO END, from the contract of `write`: r is its answer, and x the buffer `out` afterwards
+module _ (b : List ℕ) (n : ℕ) (out : List ℕ) (r : Written) (x : List ℕ) (h : Bytes b)
+    (met : (r ≡ writtenOf (writing b n (length out))) × (x ≡ buffer (writing b n (length out)) out)) where
+  -- number 0: the buffer has its length still, begins with the chosen book, and is as it was beyond; and what was written reads back
+  pub record Back : Type 0 where
+    pub book : RouteBook
+    pub reads : reading b ≡ good book
+    pub below : n < choices book
+    pub same-length : length x ≡ length out
+    pub written : take (writtenLength r) x ≡ encode (chosen book n)
+    pub beyond : drop (writtenLength r) x ≡ drop (writtenLength r) out
+    pub back : reading (take (writtenLength r) x) ≡ good (chosen book n)
+    pub same-choices : choices (chosen book n) ≡ choices book
+    pub same-routes : (k : ℕ) → k < length (book .lightpaths) → routeBy (chosen book n) (digits (sizes (chosen book n)) 0) k ≡ routeBy book (digits (sizes book) n) k
+
+  back-of : {w : List ℕ} → Wrote b n (length out) w → r ≡ Length (length w) → x ≡ buffer (served w) out → Back
+  back-of {w} a e f =
+      let long : writtenLength r ≡ length w = ap writtenLength e in
+      let z = buffer-served w out (a .fits) in
+      let front : take (writtenLength r) x ≡ w = ap₂ take long f ∙ z .1 in
+      record {
+        book = a .book;
+        reads = a .reads;
+        below = a .below;
+        same-length = ap length f ∙ z .0;
+        written = front ∙ a .is;
+        beyond = ap₂ drop long f ∙ z .2 ∙ ap (λ (l : ℕ). drop l out) (sym long);
+        back = ap reading front ∙ a .back;
+        same-choices = a .same-choices;
+        same-routes = a .same-routes;
+      }
+
+  denied-above : {k p : ℕ} → Denied b n (length out) k p → 1 ≤ k
+  denied-above (at-fault e) = refused-within b _ _ h e .0
+  denied-above (no-choice m e l) = omega arith
+  denied-above (no-room m e l f) = omega arith
+
+  pub number-served : writtenNumber r ≡ 0 → Back
+  number-served z = go (answered b n (length out) h) (met .0) (met .1)
+    where
+      go : {v : Writing} → Answered b n (length out) v → r ≡ writtenOf v → x ≡ buffer v out → Back
+      go (was-served a) e f = back-of a e f
+      go (was-denied d) e f = absurd (omega (arith, denied-above d, ap writtenNumber e))
+
+  -- any other: a refusal on the ground with that number, at that place, and the buffer as it was, all of it
+  pub number-denied : (writtenNumber r ≡ 0 → ⊥) → Denied b n (length out) (writtenNumber r) (writtenPlace r) × (x ≡ out)
+  number-denied z = go (answered b n (length out) h) (met .0) (met .1)
+    where
+      go : {v : Writing} → Answered b n (length out) v → r ≡ writtenOf v → x ≡ buffer v out → Denied b n (length out) (writtenNumber r) (writtenPlace r) × (x ≡ out)
+      go (was-served a) e f = absurd (z (ap writtenNumber e))
+      go (was-denied d) e f = (rw e d, f)

@@ -1,4 +1,4 @@
--- What the reader's promise leaves open: nothing. Every string of bytes is one good book or has one fault, never both, and the reply is told by that.
+-- What the promises leave open: nothing. Every string of bytes is one good book or has one fault, never both, and the reply is told by that.
 -- The reply is an equation, so two replies that meet it are equal; the law of the format and the rows of the table say what it means.
 use Prim.Native.Nat.{ℕ, _≤_}
 use mathlib.Core.Path.{_≡_, refl, sym, ap, _∙_}

@@ -19,11 +19,11 @@ abbrev pub movable : RouteBook → List ℕ
 movable m = movableFrom (owners m) 0 (length (m .lightpaths))
 
 -- B51: eight digits, one for each movable lightpath; with w alternatives a digit has w + 1 values, and an unused one has one
-abbrev pub listed : RouteBook → List ℕ
-listed m = padded mostWithAlternatives (map (λ k. count k (owners m)) (movable m))
+abbrev pub alternativesEach : RouteBook → List ℕ
+alternativesEach m = padded mostWithAlternatives (map (λ k. count k (owners m)) (movable m))
 
 abbrev pub sizes : RouteBook → List ℕ
-sizes m = map suc (listed m)
+sizes m = map suc (alternativesEach m)
 
 -- B52: a row of digits is valid for a list of sizes where there are as many, each below its own size
 unfoldable pub valid : List ℕ → List ℕ → Bool

@@ -1,4 +1,4 @@
--- What the private functions of the crate tell each other. The contract of `read` does not name any of it.
+-- What the private functions of the crate tell each other. No contract of a public function names any of it.
 use Prim.Native.Nat.{ℕ, zero, suc, _+_, _/_, _%_, _≤_, _<_}
 use mathlib.Core.Path.{_≡_}
 use mathlib.Core.List.{List, [], _∷_, map}
@@ -129,7 +129,7 @@ wordsOf r = record { low = spanWord 0 r; high = spanWord 1 r }
 abbrev pub wordsInto : ℕ → ℕ → ℕ → Words
 wordsInto low high x = record { low = putIf (eqb (x / 64) 0) low (x % 64); high = putIf (eqb (x / 64) 1) high (x % 64) }
 
--- a book of which some different of records are read
+-- a book of which some kinds of records are read
 abbrev pub partly : List Bool → List Span → List Lightpath → List Alternative → RouteBook
 partly ns sps lps als = record { nodes = ns; spans = sps; lightpaths = lps; alternatives = als }
 

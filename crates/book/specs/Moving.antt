@@ -7,7 +7,7 @@ use lib.ListN.{length, getD, take, drop, set, replicate}
 use lib.Dec.{eqb, ltb}
 use Rattle.book.specs.Book.{RouteBook, mostLightpaths, mostForOne, mostWithAlternatives, longestRoute}
 use Rattle.book.specs.Memory.{padded, mostRoutes, laid, withRows}
-use Rattle.book.specs.Choice.{movable, listed, digits}
+use Rattle.book.specs.Choice.{movable, alternativesEach, digits}
 use Rattle.book.specs.declared.Book.{Book}
 use Rattle.book.specs.declared.choice.Movables.{Movables}
 use Rattle.book.specs.declared.choice.Choice.{Choice}
@@ -15,7 +15,7 @@ use Rattle.book.specs.declared.choice.Rows.{Rows}
 
 -- B64: the movable lightpaths of a book
 abbrev pub movablesOf : RouteBook → Movables
-movablesOf m = record { count = length (movable m); lightpath = padded mostWithAlternatives (movable m); more = listed m }
+movablesOf m = record { count = length (movable m); lightpath = padded mostWithAlternatives (movable m); more = alternativesEach m }
 
 -- they are gathered from the lightpaths of the alternatives, in book order: each alternative belongs to the movable lightpath found last, or is the
 -- first of a new one; a ninth lightpath and an eighth alternative of one are passed over
@@ -25,14 +25,14 @@ noMovables = record { count = 0; lightpath = replicate mostWithAlternatives 0; m
 abbrev pub lastIs : Movables → ℕ → Bool
 lastIs w k = ltb 0 (w .count) && eqb (getD (w .lightpath) (w .count - 1) 0) k
 
-abbrev pub oneMore : Movables → Movables
-oneMore w = record { count = w .count; lightpath = w .lightpath; more = set (w .more) (w .count - 1) (min (getD (w .more) (w .count - 1) 0 + 1) mostForOne) }
+abbrev pub withMore : Movables → Movables
+withMore w = record { count = w .count; lightpath = w .lightpath; more = set (w .more) (w .count - 1) (min (getD (w .more) (w .count - 1) 0 + 1) mostForOne) }
 
-abbrev pub newOne : Movables → ℕ → Movables
-newOne w k = record { count = w .count + 1; lightpath = set (w .lightpath) (w .count) k; more = set (w .more) (w .count) 1 }
+abbrev pub withNew : Movables → ℕ → Movables
+withNew w k = record { count = w .count + 1; lightpath = set (w .lightpath) (w .count) k; more = set (w .more) (w .count) 1 }
 
 unfoldable pub withOne : Movables → ℕ → Movables
-withOne w k = cond (lastIs w k) (oneMore w) (cond (ltb (w .count) mostWithAlternatives) (newOne w k) w)
+withOne w k = cond (lastIs w k) (withMore w) (cond (ltb (w .count) mostWithAlternatives) (withNew w k) w)
 
 unfoldable pub gathered : Movables → List ℕ → Movables
 gathered w [] = w
@@ -67,7 +67,7 @@ movedRow listed r to from = record {
 unfoldable pub moved : Rows → ℕ → List ℕ → List ℕ → List ℕ → Rows → Rows
 moved listed first [] ws ds r = r
 moved listed first (k ∷ ks) ws ds r =
-    moved listed (first + getD ws 0 0) ks (drop 1 ws) (drop 1 ds) (movedRow listed r (min k (mostLightpaths - 1)) (rowOf k first (getD ds 0 0)))
+    moved listed (first + getD ws 0 0) ks (drop 1 ws) (drop 1 ds) (movedRow listed r (min k (mostLightpaths - 1)) (rowOf (min k (mostLightpaths - 1)) first (getD ds 0 0)))
 
 abbrev pub rowsIn : Book → Rows
 rowsIn b = record { len = b .len; route = b .route; low = b .low; high = b .high }

@@ -32,7 +32,20 @@ abbrev pub buffer : Writing → List ℕ → List ℕ
 buffer (served w) out = w ++ drop (length w) out
 buffer (denied k p) out = out
 
--- B60: the answer in memory: how many bytes were written, or the refusal
+-- B60: the answer's number, place and length for each of its cases: 0 and 0 where it is served, and length 0 where it is refused
+abbrev pub writtenNumber : Written → ℕ
+writtenNumber (Length l) = 0
+writtenNumber (Refused k p) = k
+
+abbrev pub writtenPlace : Written → ℕ
+writtenPlace (Length l) = 0
+writtenPlace (Refused k p) = p
+
+abbrev pub writtenLength : Written → ℕ
+writtenLength (Length l) = l
+writtenLength (Refused k p) = 0
+
+-- B60: what the writer answers
 abbrev pub writtenOf : Writing → Written
 writtenOf (served w) = Length (length w)
 writtenOf (denied k p) = Refused k p

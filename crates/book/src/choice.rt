@@ -1,15 +1,15 @@
 // Choices: which lightpaths of a book can be moved, the digits of a choice and its number, and the book that a choice makes.
-// No function here asks anything of its caller: a struct that no book has gets an answer too, which docs/BOOK.md, section 10, states.
+// No public function asks anything of its caller: a struct that no book has gets an answer too, which docs/BOOK.md, section 10, states.
 use crate::Book;
+use crate::copy;
 use crate::fill;
-use crate::write;
 ghost use mathlib.Core.Path.{_≡_};
 ghost use Prim.Native.Nat.{suc, _+_, _≤_, _<_, min};
 ghost use lib.Dec.{ltb};
 ghost use lib.ListN.{length};
 ghost use Rattle.book.specs.Book.{mostForOne};
 ghost use Rattle.book.specs.Choice.{product, number, stepped};
-ghost use Rattle.book.specs.Moving.{lastIs, oneMore, newOne, withOne, movablesIn, sizesIn, choiceIn, rowOf, movedRow, rowsIn, withRowsOf, chosenIn};
+ghost use Rattle.book.specs.Moving.{lastIs, withMore, withNew, withOne, movablesIn, sizesIn, choiceIn, rowOf, movedRow, rowsIn, withRowsOf, chosenIn};
 
 // The movable lightpaths of a book in rising order, and how many alternatives each has; noughts beyond the count.
 pub struct Movables {
@@ -31,7 +31,7 @@ fn at_most(x: usize, most: usize) -> usize
 }
 
 // So many alternatives of one lightpath, and seven where they are more.
-fn most_for_one(n: u32) -> u8
+fn at_most_seven(n: u32) -> u8
     ensures { λ r. ⌜ r ≡ min n mostForOne ⌝ }
 {
     if n < 7 { n as u8 } else { 7 }
@@ -41,7 +41,7 @@ fn most_for_one(n: u32) -> u8
 fn size(more: u8) -> u32
     ensures { λ r. ⌜ r ≡ suc (min more mostForOne) ⌝ }
 {
-    most_for_one(more as u32) as u32 + 1
+    at_most_seven(more as u32) as u32 + 1
 }
 
 // The row of a lightpath's route by its digit; its alternatives are the rows from `first` on.
@@ -71,18 +71,18 @@ impl Movables {
     // With one alternative more for the lightpath found last.
     fn with_more(self) -> Movables
         requires { ⌜ (0 < self .count) × (self .count ≤ 8) ⌝ }
-        ensures { λ r. ⌜ r ≡ oneMore self ⌝ }
+        ensures { λ r. ⌜ r ≡ withMore self ⌝ }
     {
         let last = self.count as usize - 1;
         let mut w = self;
-        w.more[last] = most_for_one(w.more[last] as u32 + 1);
+        w.more[last] = at_most_seven(w.more[last] as u32 + 1);
         w
     }
 
     // With a new lightpath, which has one alternative.
     fn with_new(self, k: u8) -> Movables
         requires { ⌜ self .count < 8 ⌝ }
-        ensures { λ r. ⌜ r ≡ newOne self k ⌝ }
+        ensures { λ r. ⌜ r ≡ withNew self k ⌝ }
     {
         let n = self.count as usize;
         let mut w = self;
@@ -249,7 +249,7 @@ impl Rows {
         let rows = listed.route;
         let mut route = self.route;
         let start = 16 * from;
-        write::put(&mut route, 16 * to, &rows[start..start + 16]);
+        copy::put(&mut route, 16 * to, &rows[start..start + 16]);
         let mut r = self;
         r.len[to] = listed.len[from];
         r.low[to] = listed.low[from];
@@ -273,8 +273,9 @@ pub fn chosen(b: Book, w: Movables, c: Choice) -> Book
     let mut i = 0;
     while i < n {
         let k = lightpath[i] as usize;
-        let from = row_of(k, first, digits[i] as usize);
-        r = r.moved(listed, at_most(k, 95), from);
+        let to = at_most(k, 95);
+        let from = row_of(to, first, digits[i] as usize);
+        r = r.moved(listed, to, from);
         first += more[i] as usize;
         i += 1;
     }

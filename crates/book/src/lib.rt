@@ -1,6 +1,7 @@
 // Route books: a reader (any bytes in, a book or a numbered refusal out), the choices of a book and their numbers, and a writer of the chosen book.
 // docs/BOOK.md says what each of these is and what each refusal means.
 pub mod choice;
+mod copy;
 mod fill;
 mod record;
 mod row;

@@ -1,10 +1,10 @@
 // A route in a row of sixteen places, and its spans as a set of 128: two words.
+use crate::copy;
 use crate::set;
-use crate::write;
 ghost use mathlib.Core.Path.{_≡_};
 ghost use Prim.Native.Nat.{_+_, _≤_};
 ghost use lib.ListN.{length};
-ghost use lib.Seq.{paste};
+ghost use Rattle.book.specs.Memory.{laid};
 ghost use Rattle.book.specs.Inside.{wordsOf, wordsInto};
 
 // Spans 0 to 63, and 64 to 127.
@@ -42,8 +42,8 @@ fn words_of(route: &[u8]) -> Words
 // Puts a route into the rows, at a row's start, and hands back its spans as a set.
 pub(crate) fn put_row(rows: &mut [u8; 2432], at: usize, route: &[u8]) -> Words
     requires { ⌜ (length (now rows) ≡ 2432) × (at + length (now route) ≤ 2432) ⌝ }
-    ensures { λ r. ⌜ (r ≡ wordsOf (now (route .entry))) × (now (rows .exit) ≡ paste (now (rows .entry)) at (now (route .entry)) (length (now (route .entry)))) ⌝ }
+    ensures { λ r. ⌜ (r ≡ wordsOf (now (route .entry))) × (now (rows .exit) ≡ laid (now (rows .entry)) at (now (route .entry))) ⌝ }
 {
-    write::put(rows, at, route);
+    copy::put(rows, at, route);
     words_of(route)
 }

@@ -4,6 +4,7 @@ use crate::Book;
 use crate::choice;
 use crate::choice::Choice;
 use crate::choice::Movables;
+use crate::copy::put;
 ghost use mathlib.Core.Path.{_≡_};
 ghost use mathlib.Core.List.{List, _∷_};
 ghost use mathlib.Core.Bool.{true};
@@ -19,18 +20,6 @@ ghost use Rattle.book.specs.Inside.{Held, Room, withLightpaths, Rewritin
 pub enum Written {
     Length(usize),
     Refused(u8, usize),
-}
-
-// Copies src over the bytes of out from `at` on; all else of out is kept. The one copy loop of the crate.
-pub(crate) fn put(out: &mut [u8], at: usize, src: &[u8])
-    requires { ⌜ at + length (now src) ≤ length (now out) ⌝ }
-    ensures { λ r. ⌜ now (out .exit) ≡ laid (now (out .entry)) at (now (src .entry)) ⌝ }
-{
-    let mut i = 0;
-    while i < src.len() {
-        out[at + i] = src[i];
-        i += 1;
-    }
 }
 
 // Writes one LP record at `at`: its mark, the ends of the lightpath, the length of its route, and the route.

@@ -1,7 +1,9 @@
-// The listing of a book's choices, and of how they are written. A refused book prints `BAD number place BUF`, from writing choice 0 into 16 bytes.
+// The listing of a book's choices, and of how they are written. A refused book prints `BAD number place BUF`, from writing choice 0 into 16 bytes, and
+// the line `ROOM 4105 BAD number place BUF`, from writing choice 4294967295.
 // A good one prints `CHOICES T`, and then of each number n that is tried (below T all, or seven where T is above 30; then T and 4294967295) these lines:
 //
-//     CHOICE n d0 d1 d2 d3 d4 d5 d6 d7 v x              n below T: the digits of choice n, their number, and the number of the next choice
+//     CHOICE n d0 d1 d2 d3 d4 d5 d6 d7 v x e            n below T: the digits of choice n, their number, the number of the next choice, and 1 if it
+//                                                       comes before that one, else 0
 //     ROOM r LENGTH len BUF                             what writing it into r bytes answers, four times: r is its length L, L - 1, 0 and L + 9; or
 //     ROOM r BAD number place BUF
 //     BACK nodes spans lightpaths alternatives T same   what the written bytes read as, and 1 if their choice 0 is written as these bytes, else 0; or
@@ -238,7 +240,9 @@ fn print_row(w: Movables, n: u32) {
     number(n as u64);
     print_digits(digits);
     number(c.number(w) as u64);
-    number(c.next(w).number(w) as u64);
+    let next = c.next(w);
+    number(next.number(w) as u64);
+    number(c.before(next, w) as u64);
     word(b"\n");
 }
 
@@ -295,6 +299,9 @@ pub(crate) fn print_book(s: &[u8]) {
     let b = reply.book;
     match answer {
         Answer::Good => print_choices(s, Movables::of(b)),
-        Answer::Refused(_, _) => print_small(s, 0),
+        Answer::Refused(_, _) => {
+            print_small(s, 0);
+            print_room(s, 4294967295, ROOM);
+        }
     }
 }

@@ -55,17 +55,19 @@ array-read-k c = search needs
 cast-k : tie.Need-cast-k Inv-loop μ-loop
 cast-k c = omega (arith, low-k c)
 
+at-most-requires-2 : tie.Need-at-most-requires-2 Inv-loop μ-loop
+at-most-requires-2 c κs = search needs
+
 array-read-row-of : tie.Need-array-read-row-of Inv-loop μ-loop
 array-read-row-of c = search needs
 
 cast-row-of : tie.Need-cast-row-of Inv-loop μ-loop
-cast-row-of c = omega (arith, low-d c)
+cast-row-of c = omega (arith, low-d (c .before))
 
 row-of-requires : tie.Need-row-of-requires Inv-loop μ-loop
-row-of-requires c κs = omega (arith, low-d c, c .before .loop .inv .near, c .before .loop .inv .few, c .before .loop .inv .eight)
-
-at-most-requires-2 : tie.Need-at-most-requires-2 Inv-loop μ-loop
-at-most-requires-2 c κs = search needs
+row-of-requires c κs =
+    let l = c .before .before .loop in
+    omega (arith, low-d (c .before), l .inv .near, l .inv .few, l .inv .eight)
 
 moved-requires : tie.Need-moved-requires Inv-loop μ-loop
 moved-requires c κs = search needs
@@ -90,7 +92,7 @@ loop-less c = search needs
 loop-again : tie.Need-loop-again Inv-loop μ-loop
 loop-again c =
     let i = c .before .before .before in
-    rw (c .moved .ensures, c .before .at-most2 .ensures, c .before .before .row-of .ensures) (moving-next _ _ _ _ _ (i .before .loop .inv) (i .loop-test .taken) (low-more i))
+    rw (c .moved .ensures, c .before .row-of .ensures, c .before .before .at-most2 .ensures) (moving-next _ _ _ _ _ (i .before .loop .inv) (i .loop-test .taken) (low-more i))
 
 in-book-requires : tie.Need-in-book-requires Inv-loop μ-loop
 in-book-requires c κs = search needs
@@ -119,10 +121,10 @@ chosen-spec =
     loop-holds
     array-read-k
     cast-k
+    at-most-requires-2
     array-read-row-of
     cast-row-of
     row-of-requires
-    at-most-requires-2
     moved-requires
     array-read-first
     cast-first-2

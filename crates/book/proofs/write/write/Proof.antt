@@ -4,11 +4,10 @@ use native.Mathlib.Omega.{arith}
 use mathlib.Core.Path.{refl}
 use denote.Ref.{now}
 use Rattle.book.proofs.Stages.{all-bytes}
-use Rattle.book.proofs.Written.{reply-read, reply-refused}
+use Rattle.book.proofs.Written.{GoodRead, reply-read, reply-refused}
 use borrow.Author.Needs.{needs}
 use Rattle.book.proofs.write.write.Statement.{statement}
 use Rattle.book.proofs.write.write.Tie as tie
-use Rattle.book.proofs.write.write.Reads as reads
 
 read-requires : tie.Need-read-requires
 read-requires c κs = search needs
@@ -16,12 +15,14 @@ read-requires c κs = search needs
 enum-told : tie.Need-enum-told
 enum-told c = search needs
 
+-- where the answer of `read` is `Good`, the book that it hands back was read
+was-read : (c : tie.After-enum-told) → GoodRead (now (c .before .before .before .before .before .before .args .s)) (c .before .before .before .read .result .book)
+was-read c =
+    let s = now (c .before .before .before .before .before .before .args .s) in
+    reply-read s (c .before .before .before .read .result) (all-bytes s (λ i. omega (arith, c .before .before .before .before .before .shared-slice-known .given i))) (c .before .before .before .read .ensures) (c .enum-told .given .1)
+
 write-choice-requires : tie.Need-write-choice-requires
-write-choice-requires c κs =
-    let s = now (c .before .before .before .before .before .before .before .args .s) in
-    let r = c .before .before .before .before .read in
-    let g = reply-read s (r .result) (all-bytes s (λ i. omega (arith, c .before .before .before .before .before .before .shared-slice-known .given i))) (r .ensures) (c .before .enum-told .given .1) in
-    record { book = g .book; is = g .is }
+write-choice-requires c κs = let g = was-read (c .before) in record { book = g .book; is = g .is }
 
 enum-known-answer : tie.Need-enum-known-answer
 enum-known-answer c = search needs
@@ -30,11 +31,7 @@ same-length : tie.Need-same-length
 same-length c = search needs
 
 returns : tie.Need-returns
-returns c =
-    let s = now (c .before .before .before .before .before .before .before .before .before .before .args .s) in
-    let r = c .before .before .before .before .before .before .before .read in
-    let g = reply-read s (r .result) (all-bytes s (λ i. omega (arith, c .before .before .before .before .before .before .before .before .before .shared-slice-known .given i))) (r .ensures) (c .before .before .before .before .enum-told .given .1) in
-    rw (g .reads) (c .before .before .write-choice .ensures (g .book) (g .is))
+returns c = let g = was-read (c .before .before .before .before) in rw (g .reads) (c .before .before .write-choice .ensures (g .book) (g .is))
 
 returns-2 : tie.Need-returns-2
 returns-2 c =

@@ -4,7 +4,10 @@ use native.Mathlib.Omega.{arith}
 use mathlib.Core.Path.{_≡_, refl, _∙_}
 use lib.ListN.{length}
 use denote.Ref.{now}
+use Prim.Native.Nat.{_<_}
+use Rattle.book.specs.Book.{RouteBook}
 use Rattle.book.specs.Choice.{choices, chosen}
+use Rattle.book.specs.Inside.{ReadAs, Rewriting}
 use Rattle.book.proofs.Written.{total-is, rewriting, no-such-choice, such-a-choice}
 use borrow.Author.Needs.{needs}
 use Rattle.book.proofs.write.write_choice.Statement.{statement}
@@ -28,15 +31,20 @@ of-requires-2 c κs = search needs
 chosen-requires : tie.Need-chosen-requires
 chosen-requires c κs = search needs
 
+-- once the chosen book is made, it is what `rewrite` asks for, and the number is below T
+module _ (c : tie.After-chosen) (m : RouteBook) (h : ReadAs (now (c .before .before .before .before .before .before .before .args .s)) (c .before .before .before .before .before .before .before .args .b) m) where
+  is-chosen : Rewriting (now (c .before .before .before .before .before .before .before .args .s)) (c .before .before .before .before .before .before .before .args .b) (c .chosen .result) m (chosen m (c .before .before .before .before .before .before .before .args .n) .lightpaths)
+  is-chosen = rw (c .chosen .ensures, c .before .of2 .ensures, c .before .before .before .before .of .ensures) (rewriting m h (c .before .before .before .before .before .before .before .args .n))
+
+  is-below : c .before .before .before .before .before .before .before .args .n < choices m
+  is-below =
+      let t : c .before .before .before .total .result ≡ choices m = c .before .before .before .total .ensures ∙ rw (c .before .before .before .before .of .ensures) (total-is m h) in
+      omega (arith, t, c .before .before .if1 .left)
+
 rewrite-requires : tie.Need-rewrite-requires
 rewrite-requires c κs =
-    let a = c .before .before .before .before .before .before .before .before .args in
     let q = c .before .before .before .before .before .before .before .before .pre in
-    record {
-      book = q .book;
-      lightpaths = chosen (q .book) (a .n) .lightpaths;
-      are = rw (c .before .chosen .ensures, c .before .before .of2 .ensures, c .before .before .before .before .before .of .ensures) (rewriting (q .book) (q .is) (a .n));
-    }
+    record { book = q .book; lightpaths = chosen (q .book) (c .before .before .before .before .before .before .before .before .args .n) .lightpaths; are = is-chosen (c .before) (q .book) (q .is) }
 
 same-length : tie.Need-same-length
 same-length c = search needs
@@ -44,9 +52,7 @@ same-length c = search needs
 returns-2 : tie.Need-returns-2
 returns-2 c m h =
     let a = c .before .before .before .before .before .before .before .before .before .before .before .args in
-    let t : c .before .before .before .before .before .before .before .total .result ≡ choices m = c .before .before .before .before .before .before .before .total .ensures ∙ rw (c .before .before .before .before .before .before .before .before .of .ensures) (total-is m h) in
-    rw (such-a-choice m (a .n) (length (now (a .out))) (omega (arith, t, c .before .before .before .before .before .before .if1 .left)))
-    (c .before .before .rewrite .ensures m (chosen m (a .n) .lightpaths) (rw (c .before .before .before .before .chosen .ensures, c .before .before .before .before .before .of2 .ensures, c .before .before .before .before .before .before .before .before .of .ensures) (rewriting m h (a .n))))
+    rw (such-a-choice m (a .n) (length (now (a .out))) (is-below (c .before .before .before .before) m h)) (c .before .before .rewrite .ensures m (chosen m (a .n) .lightpaths) (is-chosen (c .before .before .before .before) m h))
 
 pub write-choice-spec : {M : Type 1} → statement M
 write-choice-spec =

@@ -15,23 +15,23 @@ cast-last c = search needs
 sub-last : tie.Need-sub-last
 sub-last c = search needs
 
-element-copy-out-most-for-one : tie.Need-element-copy-out-most-for-one
-element-copy-out-most-for-one c = search needs
+element-copy-out-at-most-seven : tie.Need-element-copy-out-at-most-seven
+element-copy-out-at-most-seven c = search needs
 
-cast-most-for-one : tie.Need-cast-most-for-one
-cast-most-for-one c = search needs
+cast-at-most-seven : tie.Need-cast-at-most-seven
+cast-at-most-seven c = search needs
 
-add-most-for-one : tie.Need-add-most-for-one
-add-most-for-one c = let z : Fits w8 (getD (c .before .before .args .self .more) (c .before .before .args .self .count - 1) 0) = search needs in omega arith
+add-at-most-seven : tie.Need-add-at-most-seven
+add-at-most-seven c = let z : Fits w8 (getD (c .before .before .args .self .more) (c .before .before .args .self .count - 1) 0) = search needs in omega arith
 
-most-for-one-requires : tie.Need-most-for-one-requires
-most-for-one-requires c κs = search needs
+at-most-seven-requires : tie.Need-at-most-seven-requires
+at-most-seven-requires c κs = search needs
 
 element-write-w : tie.Need-element-write-w
 element-write-w c = search needs
 
 returns : tie.Need-returns
-returns c = rw (c .most-for-one .ensures)
+returns c = rw (c .at-most-seven .ensures)
 
 pub with-more-spec : {M : Type 1} → statement M
 with-more-spec =
@@ -39,9 +39,9 @@ with-more-spec =
     (tie.spec
     cast-last
     sub-last
-    element-copy-out-most-for-one
-    cast-most-for-one
-    add-most-for-one
-    most-for-one-requires
+    element-copy-out-at-most-seven
+    cast-at-most-seven
+    add-at-most-seven
+    at-most-seven-requires
     element-write-w
     returns)

@@ -10,8 +10,8 @@ use Prim.Native.Nat.{ℕ, _+_, _-_, _≤_, zero-le}
 use lib.ListN.{length, set, getD, length-set}
 use lib.Seq.{paste, paste-zero, paste-suc}
 use denote.Ref.{now}
-use Rattle.book.proofs.write.put.Statement.{statement}
-use Rattle.book.proofs.write.put.Tie as tie
+use Rattle.book.proofs.copy.put.Statement.{statement}
+use Rattle.book.proofs.copy.put.Tie as tie
 
 abbrev Inv-loop : tie.InvT-loop
 Inv-loop out₀ at src i₀ out i = (i ≤ length src) × (length out ≡ length out₀) × (out ≡ paste out₀ at src i)
