@@ -11,16 +11,16 @@ use lib.Pow.{shr-shr, shl-exact}
 use lib.Bits.{bitAnd, bitOr, or-shr, or-step, and-mask}
 use Rattle.book.specs.Bits.{bit, has, put}
 
-bit-lt : (x i : ℕ) → bit x i < 2
+pub bit-lt : (x i : ℕ) → bit x i < 2
 unfolding bit
 bit-lt x i = omega arith
 
 -- the lowest bit, and the bits above it
-bit-zero : (x : ℕ) → bit x 0 ≡ x % 2
+pub bit-zero : (x : ℕ) → bit x 0 ≡ x % 2
 unfolding bit
 bit-zero x = rw div-one
 
-bit-suc : (x i : ℕ) → bit x (suc i) ≡ bit (x / 2) i
+pub bit-suc : (x i : ℕ) → bit x (suc i) ≡ bit (x / 2) i
 unfolding bit
 bit-suc x i = ap (λ (n : ℕ). x / 2 ^ n % 2) (sym (one-add i)) ∙ ap (λ (n : ℕ). n % 2) (sym (shr-shr x 1 i))
 
@@ -28,16 +28,16 @@ pub bit-of-zero : (i : ℕ) → bit 0 i ≡ 0
 unfolding bit
 bit-of-zero i = rw zero-div
 
-bit-or : (a b i : ℕ) → bit (bitOr a b) i ≡ max (bit a i) (bit b i)
+pub bit-or : (a b i : ℕ) → bit (bitOr a b) i ≡ max (bit a i) (bit b i)
 unfolding bit
 bit-or a b i = rw (or-shr, or-step) (digits-mod _ (omega arith))
 
 -- the set of one number
-bit-one : (j : ℕ) → bit (2 ^ j) j ≡ 1
+pub bit-one : (j : ℕ) → bit (2 ^ j) j ≡ 1
 bit-one zero = bit-zero 1
 bit-one (suc j) = bit-suc (2 ^ suc j) j ∙ ap (λ (n : ℕ). bit n j) (omega arith) ∙ bit-one j
 
-bit-other : (j i : ℕ) → (i ≡ j → ⊥) → bit (2 ^ j) i ≡ 0
+pub bit-other : (j i : ℕ) → (i ≡ j → ⊥) → bit (2 ^ j) i ≡ 0
 bit-other zero zero h = absurd (h refl)
 bit-other zero (suc i) h = bit-suc 1 i ∙ bit-of-zero i
 bit-other (suc j) zero h = bit-zero (2 ^ suc j) ∙ omega arith

@@ -60,7 +60,7 @@ unfolding rerouted
 length-rerouted r k [] = refl
 length-rerouted r k (p ∷ ps) = ap suc (length-rerouted r (suc k) ps)
 
-ends-rerouted : (r : ℕ → Route) (k : ℕ) (ps : List Lightpath) → map endsOf (rerouted r k ps) ≡ map endsOf ps
+pub ends-rerouted : (r : ℕ → Route) (k : ℕ) (ps : List Lightpath) → map endsOf (rerouted r k ps) ≡ map endsOf ps
 unfolding rerouted
 ends-rerouted r k [] = refl
 ends-rerouted r k (p ∷ ps) = ap (λ (l : List Ends). p .ends ∷ l) (ends-rerouted r (suc k) ps)

@@ -35,5 +35,6 @@ pub mod Placed
 pub mod Choices
 pub mod Written
 pub mod Unique
+pub mod ChoiceRead
 pub mod ReadBack
 pub mod Cards

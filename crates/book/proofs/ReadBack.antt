@@ -12,9 +12,9 @@ use borrow.Author.Tests.{ltb-true, ltb-false, leb-true, leb-false, lt-leb, le-le
 use Rattle.book.specs.Book.{RouteBook, wellFormed}
 use Rattle.book.specs.Format.{encode, Reading, good, refused, reading}
 use Rattle.book.specs.Choice.{sizes, choices, product, digits, routeBy, chosen}
-use Rattle.book.specs.Writing.{Writing, served, denied, fitted, writingOf, writing, buffer, writtenNumber, writtenPlace, writtenLength, writtenOf}
+use Rattle.book.specs.Writing.{Writing, served, denied, fitted, fittedOf, writingOf, writing, buffer, writtenNumber, writtenPlace, writtenLength, writtenOf}
 use Rattle.book.specs.declared.write.Written.{Written}
-use Rattle.book.specs.declared.write.Written.the-variants.{Length, Refused}
+use Rattle.book.specs.declared.write.Written.the-variants.{Length}
 use Rattle.book.proofs.Readers.{Bytes}
 use Rattle.book.proofs.Format.{reading-only}
 use Rattle.book.proofs.Longest.{longest}
@@ -71,7 +71,7 @@ module _ (b : List ℕ) (n room : ℕ) (h : Bytes b) where
   pub answered : Answered b n room (writing b n room)
   answered = go (reading b) refl
     where
-      choose : (m : RouteBook) → reading b ≡ good m → (t : Bool) → ltb n (choices m) ≡ t → Answered b n room (cond t (fitted room (encode (chosen m n))) (denied 12 0))
+      choose : (m : RouteBook) → reading b ≡ good m → (t : Bool) → ltb n (choices m) ≡ t → Answered b n room (fittedOf room (cond t (good (chosen m n)) (refused 12 0)))
       choose m e true q = fitted-by m e (ltb-true n (choices m) q)
       choose m e false q = was-denied (no-choice m e (ltb-false n (choices m) q))
 
@@ -82,11 +82,11 @@ module _ (b : List ℕ) (n room : ℕ) (h : Bytes b) where
 -- and each case gives that answer
 pub denied-is : (b : List ℕ) (n room : ℕ) {k p : ℕ} → Denied b n room k p → writing b n room ≡ denied k p
 denied-is b n room (at-fault e) = rw e
-denied-is b n room (no-choice m e l) = rw e (no-such-choice m n room l)
-denied-is b n room (no-room m e l f) = rw e (such-a-choice m n room l ∙ rw (lt-leb (length (encode (chosen m n))) room f))
+denied-is b n room (no-choice m e l) = rw (e, no-such-choice m n l)
+denied-is b n room (no-room m e l f) = rw (e, such-a-choice m n l, lt-leb (length (encode (chosen m n))) room f)
 
 pub served-is : (b : List ℕ) (n room : ℕ) (m : RouteBook) → reading b ≡ good m → n < choices m → length (encode (chosen m n)) ≤ room → writing b n room ≡ served (encode (chosen m n))
-served-is b n room m e l f = rw e (such-a-choice m n room l ∙ rw (le-leb (length (encode (chosen m n))) room f))
+served-is b n room m e l f = rw (e, such-a-choice m n l, le-leb (length (encode (chosen m n))) room f)
 
 -- choice 0 of a good book is written as the very bytes that were read
 pub choice-zero : (b : List ℕ) (room : ℕ) (m : RouteBook) → Bytes b → reading b ≡ good m → length b ≤ room → writing b 0 room ≡ served b

@@ -65,7 +65,7 @@ column-low w n f q d xs z pos low h k = rw (column-at w f xs d z k) (go (decLt k
     go (yes l) = low (getD xs k d) (every-at q d [] xs h k l)
     go (no l) = rw (List·getD-eq-default xs d {n = k} (omega arith), z) pos
 
-station-low : (ns : List Bool) (i : ℕ) → getD ns i false ≡ true → i < length ns
+pub station-low : (ns : List Bool) (i : ℕ) → getD ns i false ≡ true → i < length ns
 station-low [] i h = absurd (false≢true h)
 station-low (n ∷ ns) zero h = omega arith
 station-low (n ∷ ns) (suc i) h = omega (arith, station-low ns i h)
@@ -143,7 +143,7 @@ module _ (s : List ℕ) (bytes : Bytes s) (start m : ℕ) where
   lightpaths-fit ns sps e = each-only (λ x. lp-right ns sps) m [] s (drop start s) (bytes-drop start s bytes) e .2
 
 -- the set of stations is empty exactly if no node is a station
-found : (ns : List Bool) → some ns ≡ true → (i : ℕ) × (getD ns i false ≡ true)
+pub found : (ns : List Bool) → some ns ≡ true → (i : ℕ) × (getD ns i false ≡ true)
 unfolding some
 found [] h = absurd (false≢true h)
 found (true ∷ ns) h = (0, refl)

@@ -57,7 +57,7 @@ module _ (m : RouteBook) where
     short-here : (k : ℕ) → k < length (m .lightpaths) → length (path k .route .spans) ≤ 16
     short-here k l = subst (λ (r : List ℕ). length r ≤ 16) (route-here k l) (routes-short m fits k)
 
-    row-here : (k : ℕ) → k < length (m .lightpaths) → take (getD (bookOf m .len) k 0) (drop (16 * k) (bookOf m .route)) ≡ path k .route .spans
+    pub row-here : (k : ℕ) → k < length (m .lightpaths) → take (getD (bookOf m .len) k 0) (drop (16 * k) (bookOf m .route)) ≡ path k .route .spans
     row-here k l =
         let few = counted (length (m .nodes)) (length (m .spans)) (length (m .lightpaths)) (length (m .alternatives)) (parts m fits .counts) in
         rw (len-here k l, ← route-here k l) (row-held 2432 16 k (routesOf (m .lightpaths) (m .alternatives)) (routes-short m fits) (omega (arith, few)))

@@ -5,13 +5,13 @@ use mathlib.Core.Path.{_≡_, refl, sym, ap, ap₂, _∙_}
 use mathlib.Core.List.{List}
 use mathlib.Core.Bool.{Bool, true, false, false≢true}
 use borrow.Author.Tests.{lt-ltb, le-ltb}
-use Rattle.book.specs.Book.{RouteBook}
-use Rattle.book.specs.Format.{encode, Reading, good, refused, reading}
+use Rattle.book.specs.Book.{RouteBook, wellFormed}
+use Rattle.book.specs.Format.{Reading, good, refused, reading}
 use Rattle.book.specs.Memory.{bookOf, numberOf, placeOf, shown}
 use Rattle.book.specs.Inside.{ReadAs, Rewriting}
 use Rattle.book.specs.Choice.{sizes, choices, product, digits, routeBy, chosen}
 use Rattle.book.specs.Moving.{movablesOf, movablesIn, sizesIn, choiceIn, chosenIn}
-use Rattle.book.specs.Writing.{denied, fitted, writingOf}
+use Rattle.book.specs.Writing.{chosenOf}
 use Rattle.book.specs.declared.Book.{Book}
 use Rattle.book.specs.declared.Reply.{Reply}
 use Rattle.book.specs.declared.Answer.{Answer}
@@ -25,34 +25,34 @@ use Rattle.book.proofs.Choices.{sizes-in}
 use Rattle.book.proofs.Placed.{chosen-in}
 
 -- what the struct of a good book tells
-module _ {s : List ℕ} {b : Book} (m : RouteBook) (h : ReadAs s b m) where
+module _ {b : Book} (m : RouteBook) (held : b ≡ bookOf m) (fits : wellFormed m ≡ true) where
   movables-are : movablesIn b ≡ movablesOf m
-  movables-are = ap movablesIn (h .held) ∙ movables-of m (h .fits)
+  movables-are = ap movablesIn held ∙ movables-of m fits
 
   sizes-are : sizesIn (movablesIn b) ≡ sizes m
-  sizes-are = ap sizesIn movables-are ∙ sizes-in m (h .fits)
+  sizes-are = ap sizesIn movables-are ∙ sizes-in m fits
 
   pub total-is : product (sizesIn (movablesIn b)) ≡ choices m
   total-is = ap product sizes-are
 
-  chosen-is : (n : ℕ) → chosenIn b (movablesIn b) (choiceIn (movablesIn b) n) ≡ bookOf (chosen m n)
+  pub chosen-is : (n : ℕ) → chosenIn b (movablesIn b) (choiceIn (movablesIn b) n) ≡ bookOf (chosen m n)
   chosen-is n =
-      (λ i. chosenIn (h .held i) (movables-are i) (record { digits = digits (sizes-are i) n })) ∙ chosen-in m (digits (sizes m) n) (h .fits) (digits-valid (sizes m) n (sizes-above m))
+      (λ i. chosenIn (held i) (movables-are i) (record { digits = digits (sizes-are i) n })) ∙ chosen-in m (digits (sizes m) n) fits (digits-valid (sizes m) n (sizes-above m))
 
-  pub rewriting : (n : ℕ) → Rewriting s b (chosenIn b (movablesIn b) (choiceIn (movablesIn b) n)) m (chosen m n .lightpaths)
-  rewriting n = record {
-    read = h;
-    new-is = chosen-is n;
-    new-fits = chosen-fits m (digits (sizes m) n) (h .fits) (digits-valid (sizes m) n (sizes-above m));
-    as-many = length-rerouted (routeBy m (digits (sizes m) n)) 0 (m .lightpaths);
-  }
+pub rewriting : {s : List ℕ} {b : Book} (m : RouteBook) → ReadAs s b m → (n : ℕ) → Rewriting s b (chosenIn b (movablesIn b) (choiceIn (movablesIn b) n)) m (chosen m n .lightpaths)
+rewriting m h n = record {
+  read = h;
+  new-is = chosen-is m (h .held) (h .fits) n;
+  new-fits = chosen-fits m (digits (sizes m) n) (h .fits) (digits-valid (sizes m) n (sizes-above m));
+  as-many = length-rerouted (routeBy m (digits (sizes m) n)) 0 (m .lightpaths);
+}
 
--- the answer for a good book, by its two tests
-pub no-such-choice : (m : RouteBook) (n room : ℕ) → choices m ≤ n → writingOf (good m) n room ≡ denied 12 0
-no-such-choice m n room l = rw (le-ltb n (choices m) l)
+-- the choice of a good book, by its test
+pub no-such-choice : (m : RouteBook) (n : ℕ) → choices m ≤ n → chosenOf (good m) n ≡ refused 12 0
+no-such-choice m n l = rw (le-ltb n (choices m) l)
 
-pub such-a-choice : (m : RouteBook) (n room : ℕ) → n < choices m → writingOf (good m) n room ≡ fitted room (encode (chosen m n))
-such-a-choice m n room l = rw (lt-ltb n (choices m) l)
+pub such-a-choice : (m : RouteBook) (n : ℕ) → n < choices m → chosenOf (good m) n ≡ good (chosen m n)
+such-a-choice m n l = rw (lt-ltb n (choices m) l)
 
 good-not-refused : {k p : ℕ} → _≡_ {A = Answer} Good (Refused k p) → ⊥
 good-not-refused e = false≢true (sym (ap isGood e))

@@ -18,10 +18,19 @@ pub data Writing : Type 0 where
 abbrev pub fitted : ℕ → List ℕ → Writing
 fitted room w = cond (leb (length w) room) (served w) (denied 11 0)
 
--- B61: the book's own fault comes first; then 12, where the number is not below the number of choices; then 11
+-- B61: a refusal is handed on as it is
+abbrev pub fittedOf : ℕ → Reading → Writing
+fittedOf room (good m) = fitted room (encode m)
+fittedOf room (refused k p) = denied k p
+
+-- B61: the choice that is read: the book's own fault comes first; then 12, where the number is not below the number of choices
+abbrev pub chosenOf : Reading → ℕ → Reading
+chosenOf (good m) n = cond (ltb n (choices m)) (good (chosen m n)) (refused 12 0)
+chosenOf (refused k p) n = refused k p
+
+-- B61, B62: the choice is read, and then 11 may come
 abbrev pub writingOf : Reading → ℕ → ℕ → Writing
-writingOf (good m) n room = cond (ltb n (choices m)) (fitted room (encode (chosen m n))) (denied 12 0)
-writingOf (refused k p) n room = denied k p
+writingOf g n room = fittedOf room (chosenOf g n)
 
 -- the bytes of a book, the number of a choice, and the length of the buffer
 abbrev pub writing : List ℕ → ℕ → ℕ → Writing

@@ -1,15 +1,21 @@
-// Choices: which lightpaths of a book can be moved, the digits of a choice and its number, and the book that a choice makes.
+// Choices: which lightpaths of a book can be moved, the digits of a choice and its number, the book that a choice makes, and reading it.
 // No public function asks anything of its caller: a struct that no book has gets an answer too, which docs/BOOK.md, section 10, states.
+use crate::Answer;
 use crate::Book;
+use crate::Reply;
 use crate::copy;
 use crate::fill;
 ghost use mathlib.Core.Path.{_≡_};
+ghost use mathlib.Core.Bool.{true};
 ghost use Prim.Native.Nat.{suc, _+_, _≤_, _<_, min};
 ghost use lib.Dec.{ltb};
-ghost use lib.ListN.{length};
-ghost use Rattle.book.specs.Book.{mostForOne};
+ghost use Rattle.book.specs.Book.{RouteBook, mostForOne, wellFormed};
+ghost use Rattle.book.specs.Format.{good, reading};
+ghost use Rattle.book.specs.Memory.{bookOf, shown};
 ghost use Rattle.book.specs.Choice.{product, number, stepped};
 ghost use Rattle.book.specs.Moving.{lastIs, withMore, withNew, withOne, movablesIn, sizesIn, choiceIn, rowOf, movedRow, rowsIn, withRowsOf, chosenIn};
+ghost use Rattle.book.specs.Writing.{chosenOf};
+ghost use Rattle.book.specs.Inside.{Held};
 
 // The movable lightpaths of a book in rising order, and how many alternatives each has; noughts beyond the count.
 pub struct Movables {
@@ -280,4 +286,34 @@ pub fn chosen(b: Book, w: Movables, c: Choice) -> Book
         i += 1;
     }
     r.in_book(b)
+}
+
+// Reads choice n of the good book b: the book that it makes, or 12 where there is no such choice.
+fn choose_of(b: Book, n: u32) -> Reply
+    requires { ⌜ Held b ⌝ }
+    ensures { λ r. ⌜ ((m : RouteBook) → b ≡ bookOf m → wellFormed m ≡ true → r ≡ shown (chosenOf (good m) n)) ⌝ }
+{
+    let w = Movables::of(b);
+    if w.total() <= n {
+        return crate::refused(12, 0);
+    }
+    let c = Choice::of(n, w);
+    let book = chosen(b, w, c);
+    Reply {
+        answer: Answer::Good,
+        book: book,
+    }
+}
+
+// Reads choice n of a book: the book with each lightpath on its chosen route, or the book's own fault, or 12 where there is no such choice.
+pub fn choose(s: &[u8], n: u32) -> Reply
+    ensures { λ r. ⌜ r ≡ shown (chosenOf (reading (now (s .entry))) n) ⌝ }
+{
+    let reply = crate::read(s);
+    let answer = reply.answer;
+    let book = reply.book;
+    match answer {
+        Answer::Good => choose_of(book, n),
+        Answer::Refused(no, place) => crate::refused(no, place),
+    }
 }

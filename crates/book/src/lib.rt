@@ -55,7 +55,7 @@ pub(crate) enum Step {
 }
 
 // A refusal: its number and place, and a book of nothing.
-fn refused(no: u8, place: usize) -> Reply
+pub(crate) fn refused(no: u8, place: usize) -> Reply
     ensures { λ r. ⌜ r ≡ refusedReply no place ⌝ }
 {
     let book = fill::empty();

@@ -1,9 +1,11 @@
 // Reads route books as text from standard input, one a line, and prints for each what `book::read` answers: `GOOD nodes spans lightpaths
 // alternatives` or `BAD number place`. A line has the book's bytes, at most 4,096, two lower-case hex digits each, with one blank between; `.` alone
-// is the empty book. A line that starts with `w` and a blank, and then has a book, prints the listing of src/choices.rt instead. A line that starts
-// with `#` and an empty line print nothing, and any other line prints `?`. Input past 524,288 bytes is not read.
+// is the empty book. A line that starts with `w` and a blank, and then has a book, prints the listing of src/choices.rt instead, and one that starts with
+// `j` and a blank that of src/judged.rt. A line that starts with `#` and an empty line print nothing, and any other line prints `?`. Input past 524,288
+// bytes is not read.
 mod choices;
 mod hex;
+mod judged;
 mod say;
 
 use book::Answer;
@@ -29,33 +31,40 @@ fn print_answer(s: &[u8]) {
     word(b"\n");
 }
 
-// Prints what is asked of a book: its answer, or the listing of its choices.
-fn print_asked(s: &[u8], listing: bool) {
-    if listing {
-        choices::print_book(s);
-    } else {
-        print_answer(s);
+// What a line asks of its book: what reading answers, the listing of its choices, or that of their judgement.
+enum Wanted {
+    Reading,
+    Choices,
+    Judgement,
+}
+
+// Prints what is asked of a book.
+fn print_asked(s: &[u8], wanted: Wanted) {
+    match wanted {
+        Wanted::Reading => print_answer(s),
+        Wanted::Choices => choices::print_book(s),
+        Wanted::Judgement => judged::print_book(s),
     }
 }
 
 // Prints what is asked of the book in the first `n` bytes of `space`, or `?` where it has fewer than `n`.
-fn print_first(space: &[u8], n: usize, listing: bool) {
+fn print_first(space: &[u8], n: usize, wanted: Wanted) {
     if n <= space.len() {
-        print_asked(&space[0..n], listing);
+        print_asked(&space[0..n], wanted);
     } else {
         word(b"?\n");
     }
 }
 
 // Prints what is asked of a book in hex, or of the empty book.
-fn print_book(line: &[u8], listing: bool) {
+fn print_book(line: &[u8], wanted: Wanted) {
     if line.len() == 1 && line[0] == b'.' {
-        print_asked(b"", listing);
+        print_asked(b"", wanted);
         return;
     }
     let mut space = io::buffer();
     let n = hex::unhex(line, &mut space);
-    print_first(&space, n, listing);
+    print_first(&space, n, wanted);
 }
 
 // Prints what one line of the input asks for.
@@ -66,11 +75,17 @@ fn print_line(line: &[u8]) {
     if line[0] == b'#' {
         return;
     }
-    if line.len() > 2 && line[0] == b'w' && line[1] == b' ' {
-        print_book(&line[2..], true);
-        return;
+    if line.len() > 2 && line[1] == b' ' {
+        if line[0] == b'w' {
+            print_book(&line[2..], Wanted::Choices);
+            return;
+        }
+        if line[0] == b'j' {
+            print_book(&line[2..], Wanted::Judgement);
+            return;
+        }
     }
-    print_book(line, false);
+    print_book(line, Wanted::Reading);
 }
 
 // Goes through the lines of the text. The last may have no line end.

@@ -2,7 +2,6 @@
 -- What the struct of the book tells about its choices is what the book says, by the laws of Written.antt.
 use native.Mathlib.Omega.{arith}
 use mathlib.Core.Path.{_≡_, refl, _∙_}
-use lib.ListN.{length}
 use denote.Ref.{now}
 use Prim.Native.Nat.{_<_}
 use Rattle.book.specs.Book.{RouteBook}
@@ -22,8 +21,8 @@ total-requires c κs = search needs
 returns : tie.Need-returns
 returns c m h =
     let a = c .before .before .before .before .before .args in
-    let t : c .before .total .result ≡ choices m = c .before .total .ensures ∙ rw (c .before .before .of .ensures) (total-is m h) in
-    rw (no-such-choice m (a .n) (length (now (a .out))) (omega (arith, t, c .if1 .taken))) (refl, refl)
+    let t : c .before .total .result ≡ choices m = c .before .total .ensures ∙ rw (c .before .before .of .ensures) (total-is m (h .held) (h .fits)) in
+    rw (no-such-choice m (a .n) (omega (arith, t, c .if1 .taken))) (refl, refl)
 
 of-requires-2 : tie.Need-of-requires-2
 of-requires-2 c κs = search needs
@@ -38,7 +37,7 @@ module _ (c : tie.After-chosen) (m : RouteBook) (h : ReadAs (now (c .before .bef
 
   is-below : c .before .before .before .before .before .before .before .args .n < choices m
   is-below =
-      let t : c .before .before .before .total .result ≡ choices m = c .before .before .before .total .ensures ∙ rw (c .before .before .before .before .of .ensures) (total-is m h) in
+      let t : c .before .before .before .total .result ≡ choices m = c .before .before .before .total .ensures ∙ rw (c .before .before .before .before .of .ensures) (total-is m (h .held) (h .fits)) in
       omega (arith, t, c .before .before .if1 .left)
 
 rewrite-requires : tie.Need-rewrite-requires
@@ -52,7 +51,7 @@ same-length c = search needs
 returns-2 : tie.Need-returns-2
 returns-2 c m h =
     let a = c .before .before .before .before .before .before .before .before .before .before .before .args in
-    rw (such-a-choice m (a .n) (length (now (a .out))) (is-below (c .before .before .before .before) m h)) (c .before .before .rewrite .ensures m (chosen m (a .n) .lightpaths) (is-chosen (c .before .before .before .before) m h))
+    rw (such-a-choice m (a .n) (is-below (c .before .before .before .before) m h)) (c .before .before .rewrite .ensures m (chosen m (a .n) .lightpaths) (is-chosen (c .before .before .before .before) m h))
 
 pub write-choice-spec : {M : Type 1} → statement M
 write-choice-spec =

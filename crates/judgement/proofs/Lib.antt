@@ -1,0 +1,22 @@
+-- The laws of crate judgement; docs/PROMISES.md lists the theorems among them.
+pub mod Sets
+pub mod Joins
+pub mod Alike
+pub mod Stations
+pub mod Whole
+pub mod Chains
+pub mod First
+pub mod Sums
+pub mod Cuts
+pub mod Verdicts
+pub mod Changes
+pub mod Once
+pub mod Loads
+pub mod Excess
+pub mod Scores
+pub mod Tables
+pub mod Held
+pub mod Found
+pub mod Apart
+pub mod Opened
+pub mod Cards

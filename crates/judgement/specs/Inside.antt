@@ -1,0 +1,62 @@
+-- What the private functions of the crate tell each other: a network held in arrays.
+use Prim.Native.Nat.{ℕ, zero, suc, _+_, _<_, _≤_}
+use mathlib.Core.Path.{_≡_}
+use mathlib.Core.List.{List}
+use mathlib.Core.Bool.{Bool, false, not, _&&_}
+use lib.ListN.{length, getD, set, replicate}
+use Rattle.book.specs.Bits.{has}
+use lib.Dec.{eqb}
+use Rattle.book.specs.declared.Book.{Book}
+use Rattle.judgement.specs.declared.kind.Parted.{Parted}
+use Rattle.judgement.specs.declared.kind.Parted.the-variants.{At}
+use Rattle.judgement.specs.Network.{Network, sideOf}
+use Rattle.judgement.specs.Judgement.{sum, one}
+
+-- the network of n lightpaths whose ends stand in two arrays, and which of them are up by a third
+abbrev pub netOf : ℕ → List ℕ → List ℕ → Network
+netOf n from to = record { count = n; from = λ k. getD from k 0; to = λ k. getD to k 0 }
+
+abbrev pub upOf : List Bool → ℕ → Bool
+upOf up k = getD up k false
+
+-- what the code relies on in such arrays
+pub record Fits (n : ℕ) (from to : List ℕ) : Type 0 where
+  pub few : n ≤ 96
+  pub from-long : length from ≡ 96
+  pub to-long : length to ≡ 96
+  pub from-low : (k : ℕ) → getD from k 0 < 64
+  pub to-low : (k : ℕ) → getD to k 0 < 64
+
+-- the first n of 96 places by a test, and false beyond
+unfoldable pub upTable : (ℕ → Bool) → ℕ → List Bool
+upTable t zero = replicate 96 false
+upTable t (suc n) = set (upTable t n) n (t n)
+
+-- whether word k, a set, has not the number i
+abbrev pub unset : List ℕ → ℕ → ℕ → Bool
+unset words i k = not (has (getD words k 0) i)
+
+-- with bit i of the words out: the side of the station `start`, whether it lacks a station, and the answer that names the span
+abbrev pub sideIn : Book → ℕ → List ℕ → ℕ → ℕ
+sideIn b start words i = sideOf (netOf (b .lightpaths) (b .from) (b .to)) (unset words i) 64 start
+
+abbrev pub partsIn : Book → ℕ → List ℕ → ℕ → Bool
+partsIn b start words i = not (eqb (sideIn b start words i) (b .stations))
+
+abbrev pub cutIn : Book → ℕ → List ℕ → ℕ → ℕ → Parted
+cutIn b start words base i = At (base + i) (sideIn b start words i)
+
+-- lightpath k is not up, and its ends are not joined by those that are
+abbrev pub partedBy : ℕ → List ℕ → List ℕ → (ℕ → Bool) → ℕ → Bool
+partedBy n from to up k = not (up k) && not (has (sideOf (netOf n from to) up 64 (getD from k 0)) (getD to k 0))
+
+-- word k has the number i, and the ends of lightpath k are not joined by those whose words have it not
+abbrev pub apartAt : ℕ → List ℕ → List ℕ → List ℕ → ℕ → ℕ → Bool
+apartAt n from to words i k = has (getD words k 0) i && not (has (sideOf (netOf n from to) (unset words i) 64 (getD from k 0)) (getD to k 0))
+
+-- how many such lightpaths there are for the number i, and for all numbers below count
+abbrev pub apartOn : ℕ → List ℕ → List ℕ → List ℕ → ℕ → ℕ
+apartOn n from to words i = sum (λ k. one (apartAt n from to words i k)) n
+
+abbrev pub apartIn : ℕ → List ℕ → List ℕ → List ℕ → ℕ → ℕ
+apartIn n from to words count = sum (λ i. apartOn n from to words i) count

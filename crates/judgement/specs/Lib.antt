@@ -1,0 +1,10 @@
+-- What a reader must believe of crate judgement: who is joined (Network), loads, sides, verdict and score (Judgement), both forms of survivability
+-- (Cuts), when each verdict is given (Meaning), and what the operations answer (Answers). Inside and Holding have what the private functions tell each
+-- other: nothing to believe.
+pub mod Network
+pub mod Judgement
+pub mod Cuts
+pub mod Meaning
+pub mod Answers
+pub mod Inside
+pub mod Holding

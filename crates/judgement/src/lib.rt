@@ -1,0 +1,82 @@
+// The judgement of a choice of routes: loads, sides, the verdict, the question about a span, and the score. docs/JUDGEMENT.md says what each is.
+mod kind;
+mod load;
+mod pairs;
+mod question;
+mod side;
+
+use book::Answer;
+use book::choice;
+ghost use mathlib.Core.Path.{_≡_};
+ghost use Rattle.book.specs.Format.{reading};
+ghost use Rattle.book.specs.Writing.{chosenOf};
+ghost use Rattle.judgement.specs.Answers.{judgedOf, scoredOf, askedOf};
+
+// The first that holds: a span over its limit, with its load and limit; a network that is split, with the side; a span whose loss parts the stations, with
+// the side then; or none of these.
+pub enum Verdict {
+    Over(u8, u16, u8),
+    Split(u64),
+    Cut(u8, u64),
+    Okay,
+}
+
+// The answer of `judge`: the verdict, or a refusal's number and place.
+pub enum Judged {
+    Told(Verdict),
+    Refused(u8, usize),
+}
+
+// The answer of `score`: F and Fc, or a refusal's number and place.
+pub enum Scored {
+    Told(u16, u16),
+    Refused(u8, usize),
+}
+
+// The answer of `ask`: the side with the span out and whether it holds all stations, or a refusal's number and place.
+pub enum Asked {
+    Told(u64, bool),
+    Refused(u8, usize),
+}
+
+// Judges choice n of a book.
+pub fn judge(s: &[u8], n: u32) -> Judged
+    ensures { λ r. ⌜ r ≡ judgedOf (chosenOf (reading (now (s .entry))) n) ⌝ }
+{
+    let reply = choice::choose(s, n);
+    let answer = reply.answer;
+    let b = reply.book;
+    match answer {
+        Answer::Good => {
+            let v = kind::verdict_of(b);
+            Judged::Told(v)
+        }
+        Answer::Refused(no, place) => Judged::Refused(no, place),
+    }
+}
+
+// Scores choice n of a book: F and Fc.
+pub fn score(s: &[u8], n: u32) -> Scored
+    ensures { λ r. ⌜ r ≡ scoredOf (chosenOf (reading (now (s .entry))) n) ⌝ }
+{
+    let reply = choice::choose(s, n);
+    let answer = reply.answer;
+    let b = reply.book;
+    match answer {
+        Answer::Good => pairs::scored_of(b),
+        Answer::Refused(no, place) => Scored::Refused(no, place),
+    }
+}
+
+// Asks about span x in choice n of a book: who is joined with it out.
+pub fn ask(s: &[u8], n: u32, x: u32) -> Asked
+    ensures { λ r. ⌜ r ≡ askedOf (chosenOf (reading (now (s .entry))) n) x ⌝ }
+{
+    let reply = choice::choose(s, n);
+    let answer = reply.answer;
+    let b = reply.book;
+    match answer {
+        Answer::Good => question::asked_of(b, x),
+        Answer::Refused(no, place) => Asked::Refused(no, place),
+    }
+}
