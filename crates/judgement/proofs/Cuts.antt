@@ -91,12 +91,19 @@ module _ (m : RouteBook) (good : wellFormed m ≡ true) where
     (λ ne. ⊎-elim (λ all. absurd (ne all)) (carried x) (decided (without m x))),
   )
 
+  -- THE LAW of the whole network: it is split exactly if nothing crosses some division
+  pub crossed-joined : AllJoined m allUp ↔ ((A : ℕ → Bool) → Divides m A → (k : ℕ) × Crosses m A k)
+  crossed-joined = (
+    (λ all A d. let z = crossing allUp A all d in (z .0, z .2)),
+    (λ f. ⊎-elim (λ all. all) (λ d. let z = f _ d in absurd (z .1 .1 (side-closed allUp (z .0) (z .1 .0) refl))) (decided allUp)),
+  )
+
   -- THE LAW of the two forms
   pub same-forms : Survives m ↔ CutForm m
   same-forms = (
-    (λ v. record { crossed = λ A d. let z = crossing allUp A (v .intact) d in (z .0, z .2); spared = λ x l c. carries-cut x .0 c (v .each x l) }),
+    (λ v. record { crossed = crossed-joined .0 (v .intact); spared = λ x l c. carries-cut x .0 c (v .each x l) }),
     (λ f. record {
-      intact = ⊎-elim (λ all. all) (λ d. let z = f .crossed _ d in absurd (z .1 .1 (side-closed allUp (z .0) (z .1 .0) refl))) (decided allUp);
+      intact = crossed-joined .1 (f .crossed);
       each = λ x l. ⊎-elim (λ all. all) (λ d. absurd (f .spared x l (carried x d))) (decided (without m x));
     }),
   )

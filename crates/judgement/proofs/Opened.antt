@@ -1,9 +1,11 @@
 -- What the reading of a choice tells the operations: a book that is well formed, or a refusal.
 -- The chosen book of a well-formed book is well formed, so whatever `choose` hands back as good can be judged.
-use Prim.Native.Nat.{ℕ}
+use Prim.Native.Nat.{ℕ, _≤_}
 use mathlib.Core.Path.{_≡_, refl, sym, ap, ap₂, _∙_, subst}
 use mathlib.Core.List.{List}
 use mathlib.Core.Bool.{Bool, true, false, cond, false≢true}
+use mathlib.Core.Logic.{_↔_}
+use native.Mathlib.Omega.{arith}
 use lib.Dec.{ltb}
 use Rattle.book.specs.declared.Book.{Book}
 use Rattle.book.specs.declared.Reply.{Reply}
@@ -18,6 +20,12 @@ use Rattle.book.proofs.Readers.{Bytes}
 use Rattle.book.proofs.Format.{reading-only}
 use Rattle.book.proofs.Numbering.{digits-valid}
 use Rattle.book.proofs.Chosen.{sizes-above, chosen-fits}
+use Rattle.book.proofs.Unique.{refused-within}
+use Rattle.judgement.specs.Judgement.{verdict}
+use Rattle.judgement.specs.Answers.{judgedOf, judgedNumbers}
+use Rattle.judgement.specs.declared.Verdict.{Verdict}
+use Rattle.judgement.specs.declared.Verdict.the-variants.{Over, Split, Cut, Okay}
+use Rattle.judgement.specs.declared.Judged.the-variants.{Told}
 
 -- a good book, as a reply holds it
 pub record Opened (g : Reading) (b : Book) : Type 0 where
@@ -42,12 +50,16 @@ bookIn : Reading → RouteBook → RouteBook
 bookIn (good m) d = m
 bookIn (refused k p) d = d
 
+numberIn : Reading → ℕ
+numberIn (good m) = 0
+numberIn (refused k p) = k
+
 isRead : Reading → Bool
 isRead (good m) = true
 isRead (refused k p) = false
 
 module _ (s : List ℕ) (n : ℕ) (h : Bytes s) where
-  fits-all : (m : RouteBook) → chosenOf (reading s) n ≡ good m → wellFormed m ≡ true
+  pub fits-all : (m : RouteBook) → chosenOf (reading s) n ≡ good m → wellFormed m ≡ true
   unfolding bookIn isRead
   fits-all m e = go (reading s) refl e
     where
@@ -69,3 +81,29 @@ module _ (s : List ℕ) (n : ℕ) (h : Bytes s) where
       go : (g : Reading) → chosenOf (reading s) n ≡ g → r ≡ shown g → Opened (chosenOf (reading s) n) (r .book)
       go (good m) q w = record { book = m; is = q; held = ap (λ (x : Reply). x .book) w; fits = fits-all m q }
       go (refused k p) q w = absurd (false≢true (sym (ap isGood (sym a ∙ ap (λ (x : Reply). x .answer) w))))
+
+  -- a refusal has a number of its own, so number 0 means that the answer is told
+  refused-above : {k p : ℕ} → chosenOf (reading s) n ≡ refused k p → 1 ≤ k
+  unfolding isRead numberIn
+  refused-above {k} {p} e = go (reading s) refl e
+    where
+      test : (a : RouteBook) (t : Bool) → cond t (good (chosen a n)) (refused 12 0) ≡ refused k p → 1 ≤ k
+      test a true q = absurd (false≢true (sym (ap isRead q)))
+      test a false q = omega (arith, ap numberIn q)
+
+      go : (g : Reading) → reading s ≡ g → chosenOf g n ≡ refused k p → 1 ≤ k
+      go (good a) q f = test a (ltb n (choices a)) f
+      go (refused i j) q f = omega (arith, ap numberIn f, refused-within s i j h q)
+
+  pub judged-told : (judgedNumbers (judgedOf (chosenOf (reading s) n)) .number ≡ 0) ↔ ((m : RouteBook) × (chosenOf (reading s) n ≡ good m))
+  judged-told = (to (chosenOf (reading s) n) refl, (λ z. ap (λ (g : Reading). judgedNumbers (judgedOf g) .number) (z .1) ∙ kinds (verdict (z .0))))
+    where
+      kinds : (v : Verdict) → judgedNumbers (Told v) .number ≡ 0
+      kinds (Over x l w) = refl
+      kinds (Split d) = refl
+      kinds (Cut x d) = refl
+      kinds Okay = refl
+
+      to : (g : Reading) → chosenOf (reading s) n ≡ g → judgedNumbers (judgedOf g) .number ≡ 0 → (m : RouteBook) × (chosenOf (reading s) n ≡ good m)
+      to (good m) e z = (m, e)
+      to (refused k p) e z = absurd (omega (arith, refused-above e, z))

@@ -3,14 +3,15 @@
 use Prim.Native.Nat.{ℕ, _<_, _≤_}
 use mathlib.Core.Path.{_≡_, refl, sym, ap, _∙_}
 use mathlib.Core.Logic.{_⊎_, inl, inr, _↔_}
-use mathlib.Core.Bool.{Bool, true, false, not, _&&_}
+use mathlib.Core.Bool.{Bool, true, false, not, _&&_, true≢false}
 use native.Mathlib.Nat.{le-trans}
 use native.Mathlib.Omega.{arith}
 use lib.ListN.{length}
 use Rattle.book.specs.Book.{RouteBook, lightpathEnds, lengthFits, wellFormed}
 use Rattle.book.specs.Bits.{has}
 use Rattle.book.specs.Choice.{lightpathAt}
-use Rattle.book.proofs.Tests.{and-inv}
+use borrow.Author.Tests.{not-true}
+use Rattle.book.proofs.Tests.{and-inv, and-both}
 use Rattle.book.proofs.Stands.{length-most}
 use Rattle.judgement.specs.Network.{Link, Joined, start, more, sideOf}
 use Rattle.judgement.specs.Judgement.{rides, sum, one, load, network, without, allUp, apart, scoreF, scoreFc}
@@ -51,6 +52,17 @@ module _ (m : RouteBook) (good : wellFormed m ≡ true) where
       go : (t : Bool) → one (not t) ≡ 0 → t ≡ true
       go true h = refl
       go false h = absurd (omega (arith, h))
+
+  -- what F counts, in terms of chains
+  pub apart-exact : (x k : ℕ) → k < length (m .lightpaths) → (apart m x k ≡ true) ↔ ((rides m x k ≡ true) × (Joined (network m) (without m x) (network m .from k) (network m .to k) → ⊥))
+  apart-exact x k l = (
+    (λ h. let p = and-inv {a = rides m x k} h in (p .0, (λ j. true≢false (sym (near-round x k l .1 j) ∙ not-true (near x k) (p .1))))),
+    (λ p. and-both (p .0) (far (near x k) (λ h. p .1 (near-round x k l .0 h)))),
+  )
+    where
+      far : (t : Bool) → (t ≡ true → ⊥) → not t ≡ true
+      far true h = absurd (h refl)
+      far false h = refl
 
   score-none : (scoreF m ≡ 0) ↔ NoneApart
   score-none = (

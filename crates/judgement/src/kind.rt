@@ -1,4 +1,4 @@
-// The verdict on a book as it stands, and the question about one span.
+// The verdict on a book as it stands.
 use crate::Verdict;
 use crate::load;
 use crate::load::Overload;
