@@ -11,6 +11,7 @@ pub mod Bits
 pub mod Numbers
 pub mod Walking
 pub mod Stations
+pub mod Once
 pub mod Tallies
 pub mod Routes
 pub mod Padded
