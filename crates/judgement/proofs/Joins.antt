@@ -12,9 +12,8 @@ use lib.Dec.{eqb}
 use lib.Pow.{pow-lt}
 use borrow.Author.Tests.{eqb-true, eqb-false, eq-eqb, ne-eqb}
 use Rattle.book.specs.Bits.{has, bit, put}
-use Rattle.book.proofs.Bits.{bit-one, bit-other, put-same}
+use Rattle.book.proofs.Bits.{bit-iff, bit-ext, has-true, true-has, bit-one, bit-other, put-same, put-keeps, put-inv, put-lt, put-le}
 use Rattle.book.proofs.Tests.{and-inv}
-use Rattle.judgement.proofs.Sets.{has-true, true-has, bit-ext, bit-iff, put-keeps, put-inv, put-lt, put-le}
 use Rattle.judgement.specs.Network.{Network, Link, Joined, start, more, brought, grown, swept, settled, sideOf}
 
 or-l : {a : Bool} (b : Bool) → a ≡ true → (a || b) ≡ true

@@ -6,17 +6,17 @@ use mathlib.Core.List.{List, [], _∷_}
 use mathlib.Core.Bool.{Bool, true, false, _&&_}
 use native.Mathlib.Omega.{arith}
 use lib.ListN.{length, getD}
-use borrow.Author.Tests.{ne-eqb}
 use Rattle.book.specs.Book.{RouteBook, lightpathEnds, lightpathFits, wellFormed}
-use Rattle.book.specs.Bits.{bit, has, put, stationsInto}
+use Rattle.book.specs.Bits.{has, put, stationsInto}
 use Rattle.book.specs.Choice.{lightpathAt}
 use Rattle.book.proofs.Tests.{and-inv}
+use Rattle.book.proofs.Bits.{has-true, has-false, true-has, put-lt}
 use Rattle.book.proofs.Parts.{parts}
 use Rattle.book.proofs.Stations.{station-has}
 use Rattle.book.proofs.Stages.{every-at, station-low, found}
 use Rattle.book.proofs.Stands.{counted}
 use Rattle.judgement.specs.Judgement.{network, stations, lowest}
-use Rattle.judgement.proofs.Sets.{low-in, low-below, low-lt, put-lt, has-true, true-has}
+use Rattle.judgement.proofs.Sets.{low-in, low-below, low-lt}
 
 into-lt : (W x k : ℕ) (ns : List Bool) → k + length ns ≤ W → x < 2 ^ W → stationsInto x k ns < 2 ^ W
 unfolding stationsInto
@@ -46,8 +46,7 @@ module _ (m : RouteBook) (good : wellFormed m ≡ true) where
   lowest-has = has-true (stations m) (lowest m) (low-in 64 (stations m) lowest-lt)
 
   pub lowest-least : (i : ℕ) → i < lowest m → has (stations m) i ≡ false
-  unfolding has
-  lowest-least i l = ne-eqb (bit (stations m) i) 1 (λ e. omega (arith, e, low-below 64 (stations m) i l))
+  lowest-least i l = has-false (stations m) i (low-below 64 (stations m) i l)
 
   -- a lightpath fits, and its ends are stations
   pub lightpath-fits : (k : ℕ) → k < length (m .lightpaths) → lightpathFits (m .nodes) (m .spans) (lightpathAt (m .lightpaths) k) ≡ true
