@@ -20,6 +20,7 @@ pub mod Turns
 pub mod Filling
 pub mod Lightpaths
 pub mod Stages
+pub mod Bounds
 pub mod Replies
 pub mod Words
 pub mod Digits

@@ -26,7 +26,7 @@ use Rattle.book.proofs.Once.{once}
 use Rattle.book.proofs.Writers.{noLightpath, row-here, held-short, held-reach}
 use Rattle.judgement.specs.Judgement.{rides, sum, one}
 use Rattle.judgement.specs.Holding.{Held, Room, Counted, LoadsOf}
-use Rattle.judgement.proofs.Stations.{counts}
+use Rattle.book.proofs.Bounds.{counts}
 use Rattle.judgement.proofs.Sums.{sum-next, sum-alike, sum-most}
 
 -- how often a span stands in a route, place by place
