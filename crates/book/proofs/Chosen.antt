@@ -1,6 +1,6 @@
 -- THE CHOSEN BOOK: for every valid row of digits it is well formed, so what is written of it reads back as it; its choice 0 is itself.
 -- A digit is at most the number of its lightpath's alternatives, so it picks a route of the book, and every one of these fits its lightpath's ends.
-use Prim.Native.Nat.{ℕ, zero, suc, _+_, _-_, _≤_, _<_, zero-le}
+use Prim.Native.Nat.{ℕ, zero, suc, _+_, _≤_, _<_, zero-le}
 use mathlib.Core.Path.{_≡_, refl, sym, ap, ap₂, _∙_, subst}
 use mathlib.Core.List.{List, [], _∷_, _++_, map}
 use mathlib.Core.Bool.{Bool, true, false, cond}
@@ -15,7 +15,7 @@ use Rattle.book.specs.Choice.{owners, movable, alternativesEach, sizes, 
 use Rattle.book.proofs.Tests.{and-inv, and-both}
 use Rattle.book.proofs.Parts.{Parts, parts, whole}
 use Rattle.book.proofs.Format.{reading-back}
-use Rattle.book.proofs.Stages.{every-at}
+use Rattle.book.proofs.Bounds.{lightpath-fits}
 use Rattle.book.proofs.Numbering.{Sizes, digits-zero, digits-valid}
 
 -- every digit has a value
@@ -117,7 +117,7 @@ module _ (m : RouteBook) (ds : List ℕ) (w : wellFormed m ≡ true) (v : valid 
       → routeFits (m .spans) (lightpathAt (m .lightpaths) k .ends) (getD (routesFor m k) j noRoute) ≡ true
   routes-fit k l zero u =
       and-inv {a = lightpathEnds (m .nodes) (lightpathAt (m .lightpaths) k .ends)}
-      (every-at (lightpathFits (m .nodes) (m .spans)) (record { ends = record { from = 0; to = 0 }; route = noRoute }) [] (m .lightpaths) (it .lightpaths) k l) .1
+      (lightpath-fits m w k l) .1
   routes-fit k l (suc j) u =
       subst (λ (e : Ends). routeFits (m .spans) e (getD (alternativesOf k (m .alternatives)) j noRoute) ≡ true)
       (List·getD-map endsOf (m .lightpaths) k (record { ends = record { from = 0; to = 0 }; route = noRoute }))

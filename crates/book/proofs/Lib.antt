@@ -11,6 +11,7 @@ pub mod Bits
 pub mod Numbers
 pub mod Walking
 pub mod Stations
+pub mod Once
 pub mod Tallies
 pub mod Routes
 pub mod Padded
@@ -19,6 +20,7 @@ pub mod Turns
 pub mod Filling
 pub mod Lightpaths
 pub mod Stages
+pub mod Bounds
 pub mod Replies
 pub mod Words
 pub mod Digits

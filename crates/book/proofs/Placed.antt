@@ -21,8 +21,7 @@ use Rattle.book.specs.declared.choice.Rows.{Rows}
 use Rattle.book.proofs.Padded.{padded-long}
 use Rattle.book.proofs.Listed.{routeOfAlternative, lower, lower-none, lower-next, lower-most, listed-at}
 use Rattle.book.proofs.Rows.{rows-full, row-places}
-use Rattle.book.proofs.Parts.{parts}
-use Rattle.book.proofs.Stands.{counted}
+use Rattle.book.proofs.Bounds.{counts}
 use Rattle.book.proofs.Lightpaths.{column-at, routeOf, altRoute}
 use Rattle.book.proofs.Writers.{noLightpath, route-here}
 use Rattle.book.proofs.Longest.{routes-short}
@@ -231,7 +230,7 @@ module _ (m : RouteBook) (ds : List ℕ) (w : wellFormed m ≡ true) (v : valid 
   chosenRoutes = routesOf (rerouted (routeBy m ds) 0 (m .lightpaths)) (m .alternatives)
 
   few : (length (m .lightpaths) ≤ 96) × (length (m .alternatives) ≤ 56)
-  few = let c = counted (length (m .nodes)) (length (m .spans)) (length (m .lightpaths)) (length (m .alternatives)) (parts m w .counts) in omega (arith, c)
+  few = let c = counts m w in (c .2, c .3)
 
   -- the row of the route that digit d gives lightpath j
   row-by : (j : ℕ) → j < length (m .lightpaths) → (d : ℕ) → d < length (routesFor m j)

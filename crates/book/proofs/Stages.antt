@@ -22,7 +22,7 @@ use Rattle.book.proofs.Tests.{and-inv, and-both}
 use Rattle.book.proofs.Readers.{Bytes, bytes-after, each-only}
 use Rattle.book.proofs.Records.{nd-right, sp-right, lp-right}
 use Rattle.book.proofs.Bits.{bit-of-zero}
-use Rattle.book.proofs.Stations.{station-has}
+use Rattle.book.proofs.Stations.{station-has, ends-both}
 use Rattle.book.proofs.Padded.{padded-long}
 use Rattle.book.proofs.Lightpaths.{column-at, routeOf, routes-filled}
 
@@ -79,11 +79,8 @@ span-low n x h =
     (ltb-true (x .left) n (c .0), ltb-true (x .right) n (c .1))
 
 path-low : (ns : List Bool) (sps : List Span) (p : Lightpath) → lightpathFits ns sps p ≡ true → (p .ends .from < length ns) × (p .ends .to < length ns)
-unfolding lightpathEnds
 path-low ns sps p h =
-    let a = and-inv {a = lightpathEnds ns (p .ends)} h in
-    let b = and-inv {a = getD ns (p .ends .from) false && getD ns (p .ends .to) false} (a .0) in
-    let c = and-inv {a = getD ns (p .ends .from) false} (b .0) in
+    let c = ends-both ns (p .ends) (and-inv {a = lightpathEnds ns (p .ends)} h .0) in
     (station-low ns (p .ends .from) (c .0), station-low ns (p .ends .to) (c .1))
 
 -- what the code relies on

@@ -1,6 +1,6 @@
 -- The set of stations holds node i exactly if node i is a station: nodes are put in one by one, each at its own number.
 -- So the code's test of a lightpath's ends is the test of docs/BOOK.md.
-use Prim.Native.Nat.{ℕ, suc, _+_, _-_, _≤_, _<_, zero-le}
+use Prim.Native.Nat.{ℕ, suc, _+_, _-_, _^_, _≤_, _<_, zero-le}
 use mathlib.Core.Path.{_≡_, refl, sym, ap, _∙_}
 use mathlib.Core.List.{List, [], _∷_, _++_}
 use mathlib.Core.Bool.{Bool, true, false, not, _&&_}
@@ -10,17 +10,24 @@ use native.Mathlib.Omega.{arith}
 use lib.ListN.{length, getD, List·getD-eq-default}
 use lib.Dec.{eqb, ltb}
 use borrow.Author.Tests.{lt-ltb, le-ltb, ltb-true}
-use Rattle.book.specs.Bits.{has, putIf, stationsInto, stationSet}
+use Rattle.book.specs.Bits.{has, put, putIf, stationsInto, stationSet}
 use Rattle.book.specs.Book.{Ends, lightpathEnds}
 use Rattle.book.specs.Inside.{endsFit}
 use Rattle.book.proofs.Tests.{and-inv}
-use Rattle.book.proofs.Bits.{bit-of-zero, put-same, put-other}
+use Rattle.book.proofs.Bits.{bit-of-zero, put-same, put-other, put-lt}
 
 -- one more node at the end
 pub stations-more : (x k : ℕ) (ns : List Bool) (n : Bool) → stationsInto x k (ns ++ n ∷ []) ≡ putIf n (stationsInto x k ns) (k + length ns)
 unfolding stationsInto
 stations-more x k [] n = ap (putIf n x) (sym (add-zero k))
 stations-more x k (a ∷ ns) n = stations-more (putIf a x k) (suc k) ns n ∙ ap (putIf n (stationsInto (putIf a x k) (suc k) ns)) (suc-add k (length ns) ∙ sym (add-suc k (length ns)))
+
+-- and all within a width
+pub stations-within : (W x k : ℕ) (ns : List Bool) → k + length ns ≤ W → x < 2 ^ W → stationsInto x k ns < 2 ^ W
+unfolding stationsInto
+stations-within W x k [] l h = h
+stations-within W x k (true ∷ ns) l h = stations-within W (put x k) (suc k) ns (omega arith) (put-lt W x k h (omega arith))
+stations-within W x k (false ∷ ns) l h = stations-within W x (suc k) ns (omega arith) h
 
 -- nothing from k on is in x
 abbrev Free : ℕ → ℕ → Type 0
@@ -73,6 +80,10 @@ regroup true b c = refl
 regroup false b c = refl
 
 -- the ends of a lightpath
+pub ends-both : (ns : List Bool) (e : Ends) → lightpathEnds ns e ≡ true → (getD ns (e .from) false ≡ true) × (getD ns (e .to) false ≡ true)
+unfolding lightpathEnds
+ends-both ns e h = and-inv {a = getD ns (e .from) false} (and-inv {a = getD ns (e .from) false && getD ns (e .to) false} h .0)
+
 pub ends-same : (ns : List Bool) (e : Ends) → endsFit (length ns) (stationSet ns) (e .from) (e .to) ≡ lightpathEnds ns e
 unfolding lightpathEnds
 ends-same ns e = go (decLt (e .from) (length ns)) (decLt (e .to) (length ns))

@@ -15,7 +15,8 @@ use Rattle.book.specs.Memory.{routesOf, bookOf, laid}
 use Rattle.book.specs.Choice.{noRoute, lightpathAt}
 use Rattle.book.specs.Inside.{Held, Room}
 use Rattle.book.proofs.Parts.{parts}
-use Rattle.book.proofs.Stands.{counted, lp-width}
+use Rattle.book.proofs.Stands.{lp-width}
+use Rattle.book.proofs.Bounds.{counts}
 use Rattle.book.proofs.Longest.{widths, routes-short}
 use Rattle.book.proofs.Rows.{row-held, rows-held}
 use Rattle.book.proofs.Lightpaths.{column-at, routeOf, altRoute}
@@ -59,8 +60,7 @@ module _ (m : RouteBook) where
 
     pub row-here : (k : ℕ) → k < length (m .lightpaths) → take (getD (bookOf m .len) k 0) (drop (16 * k) (bookOf m .route)) ≡ path k .route .spans
     row-here k l =
-        let few = counted (length (m .nodes)) (length (m .spans)) (length (m .lightpaths)) (length (m .alternatives)) (parts m fits .counts) in
-        rw (len-here k l, ← route-here k l) (row-held 2432 16 k (routesOf (m .lightpaths) (m .alternatives)) (routes-short m fits) (omega (arith, few)))
+        rw (len-here k l, ← route-here k l) (row-held 2432 16 k (routesOf (m .lightpaths) (m .alternatives)) (routes-short m fits) (omega (arith, counts m fits)))
 
     record-here : (k : ℕ) → k < length (m .lightpaths) → (r : List ℕ) → r ≡ take (getD (bookOf m .len) k 0) (drop (16 * k) (bookOf m .route))
         → recordIn (bookOf m) k r ≡ lpBytes (path k)
@@ -70,17 +70,14 @@ module _ (m : RouteBook) where
         let to : getD (bookOf m .to) k 0 ≡ path k .ends .to = column-at 96 (λ (p : Lightpath). p .ends .to) (m .lightpaths) noLightpath refl k in
         rw (e, from, to)
 
--- the most lightpaths of a book, and the most bytes that their records take
-lightpaths-few : (m : RouteBook) → wellFormed m ≡ true → length (m .lightpaths) ≤ 96
-lightpaths-few m h = counted (length (m .nodes)) (length (m .spans)) (length (m .lightpaths)) (length (m .alternatives)) (parts m h .counts) .2
-
+-- the most bytes that the records of the lightpaths take
 lightpaths-wide : (m : RouteBook) → wellFormed m ≡ true → length (bytesOf lpBytes (m .lightpaths)) ≤ 2016
-lightpaths-wide m h = omega (arith, lightpaths-few m h, widths lpBytes 21 (λ before. lp-width (m .nodes) (m .spans)) [] (m .lightpaths) (parts m h .lightpaths))
+lightpaths-wide m h = omega (arith, counts m h .2, widths lpBytes 21 (λ before. lp-width (m .nodes) (m .spans)) [] (m .lightpaths) (parts m h .lightpaths))
 
 -- what Held says of the arrays
 module _ {b : Book} (h : Held b) where
   pub held-few : b .lightpaths ≤ 96
-  held-few = rw (h .is) (lightpaths-few (h .book) (h .fits))
+  held-few = rw (h .is) (counts (h .book) (h .fits) .2)
 
   pub held-short : (k : ℕ) → k < b .lightpaths → getD (b .len) k 0 ≤ 16
   held-short k l = let w = within (h .book) (h .is) l in rw (h .is, len-here (h .book) k w) (short-here (h .book) (h .fits) k w)

@@ -1,12 +1,11 @@
 -- The side of a node depends on the ends of the lightpaths that there are and on which of them are up, and on nothing else.
 -- So what the code holds in arrays and what a book says give the same sides.
-use Prim.Native.Nat.{ℕ, zero, suc, _+_, _^_, _<_, _≤_}
-use mathlib.Core.Path.{_≡_, refl, sym, ap, _∙_}
-use mathlib.Core.Bool.{Bool, true, false, cond}
+use Prim.Native.Nat.{ℕ, zero, suc, _^_, _<_, _≤_}
+use mathlib.Core.Path.{_≡_, refl, ap, _∙_}
+use mathlib.Core.Bool.{Bool}
 use native.Mathlib.Nat.{le-refl}
 use native.Mathlib.Omega.{arith}
-use lib.Dec.{eqb}
-use Rattle.judgement.specs.Network.{Network, brought, grown, swept, settled, sideOf}
+use Rattle.judgement.specs.Network.{Network, grown, swept, settled, sideOf}
 
 pub record Alike (net net′ : Network) (up up′ : ℕ → Bool) : Type 0 where
   pub count : net .count ≡ net′ .count

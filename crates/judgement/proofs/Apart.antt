@@ -10,6 +10,7 @@ use Rattle.book.specs.declared.Book.{Book}
 use Rattle.book.specs.Book.{Lightpath, RouteBook, wellFormed}
 use Rattle.book.specs.Bits.{has}
 use Rattle.book.specs.Memory.{bookOf}
+use Rattle.book.proofs.Bounds.{counts}
 use Rattle.book.proofs.Lightpaths.{column-at}
 use Rattle.book.proofs.Tallies.{one-most}
 use Rattle.book.proofs.Words.{low-has, high-has}
@@ -20,7 +21,6 @@ use Rattle.judgement.specs.Inside.{netOf, upOf, upTable, unset, partedBy
 use Rattle.judgement.proofs.Sums.{sum-next, sum-alike, sum-most, sum-split}
 use Rattle.judgement.proofs.Tables.{table-at, table-side}
 use Rattle.judgement.proofs.Held.{route-rides, side-low, side-high}
-use Rattle.judgement.proofs.Stations.{counts}
 
 -- by the array of what is up, and by the words
 module _ (n : ℕ) (from to words : List ℕ) (i : ℕ) (few : n ≤ 96) where

@@ -9,10 +9,11 @@ use borrow.Author.Tests.{not-true, not-false}
 use Rattle.book.specs.Book.{RouteBook, wellFormed}
 use Rattle.book.specs.Bits.{has}
 use Rattle.book.proofs.Tests.{and-inv}
+use Rattle.book.proofs.Bounds.{station-lt}
 use Rattle.judgement.specs.Network.{Network, Joined, start, more}
 use Rattle.judgement.specs.Judgement.{rides, network, without, allUp, stations, lowest, side}
 use Rattle.judgement.specs.Cuts.{AllJoined, Survives, Divides, Crosses, Carries, CutForm}
-use Rattle.judgement.proofs.Stations.{station-lt, lowest-has}
+use Rattle.judgement.proofs.Stations.{lowest-has}
 use Rattle.judgement.proofs.First.{First, there, nowhere, first}
 use Rattle.judgement.proofs.Whole.{side-has}
 

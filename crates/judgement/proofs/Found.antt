@@ -21,7 +21,7 @@ use Rattle.judgement.specs.Network.{sideOf}
 use Rattle.judgement.specs.Judgement.{load, limit, network, without, allUp, stations, lowest, side, whole, firstOf, cutOrOkay, splitOr, verdict}
 use Rattle.judgement.specs.Inside.{sideIn, partsIn, cutIn}
 use Rattle.judgement.proofs.First.{first-alike, first-map, first-shift, first-parts}
-use Rattle.judgement.proofs.Stations.{counts}
+use Rattle.book.proofs.Bounds.{counts}
 use Rattle.judgement.proofs.Held.{side-low, side-high}
 
 -- CUT at the span that was found, or else the verdict `out`

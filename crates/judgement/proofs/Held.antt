@@ -22,7 +22,7 @@ use Rattle.judgement.specs.Network.{sideOf}
 use Rattle.judgement.specs.Judgement.{network, rides, without, allUp, lowest}
 use Rattle.judgement.specs.Inside.{netOf, Fits, unset}
 use Rattle.judgement.proofs.Alike.{side-alike}
-use Rattle.judgement.proofs.Stations.{counts}
+use Rattle.book.proofs.Bounds.{counts}
 
 module _ (m : RouteBook) where
   -- which lightpaths are up decides the side of s

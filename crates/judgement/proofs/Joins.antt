@@ -1,20 +1,19 @@
 -- THE SIDE of a node is the set of the nodes that are joined to it: a swept adds only what is joined, and a set that no swept enlarges holds, with one end
 -- of a lightpath that is up, the other. Whatever has grown so far is the one side, however it was grown.
-use Prim.Native.Nat.{ℕ, zero, suc, _+_, _-_, _^_, _<_, _≤_, zero-le}
+use Prim.Native.Nat.{ℕ, zero, suc, _+_, _^_, _<_, _≤_}
 use mathlib.Core.Path.{_≡_, refl, sym, ap, _∙_, subst}
 use mathlib.Core.Logic.{_⊎_, inl, inr, ⊎-elim, _↔_}
-use mathlib.Core.Bool.{Bool, true, false, cond, _&&_, _||_, false≢true}
+use mathlib.Core.Bool.{Bool, true, false, cond, _&&_, _||_}
 use native.Mathlib.Nat.{le-refl, le-trans, le-antisymm}
 use native.Mathlib.Numerals.{add-one}
 use native.Mathlib.Omega.{arith}
 use native.Mathlib.Decide.{ℕ-discrete}
 use lib.Dec.{eqb}
 use lib.Pow.{pow-lt}
-use borrow.Author.Tests.{eqb-true, eqb-false, eq-eqb, ne-eqb}
+use borrow.Author.Tests.{eqb-true, eqb-false}
 use Rattle.book.specs.Bits.{has, bit, put}
-use Rattle.book.proofs.Bits.{bit-one, bit-other, put-same}
+use Rattle.book.proofs.Bits.{bit-iff, bit-ext, has-true, true-has, bit-one, bit-other, put-same, put-keeps, put-inv, put-lt, put-le}
 use Rattle.book.proofs.Tests.{and-inv}
-use Rattle.judgement.proofs.Sets.{has-true, true-has, bit-ext, bit-iff, put-keeps, put-inv, put-lt, put-le}
 use Rattle.judgement.specs.Network.{Network, Link, Joined, start, more, brought, grown, swept, settled, sideOf}
 
 or-l : {a : Bool} (b : Bool) → a ≡ true → (a || b) ≡ true

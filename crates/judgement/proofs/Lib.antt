@@ -10,7 +10,6 @@ pub mod Sums
 pub mod Cuts
 pub mod Verdicts
 pub mod Changes
-pub mod Once
 pub mod Loads
 pub mod Excess
 pub mod Scores

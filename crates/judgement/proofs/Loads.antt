@@ -22,12 +22,12 @@ use Rattle.book.proofs.Stands.{counted, length-most}
 use Rattle.book.proofs.Stages.{every-at}
 use Rattle.book.proofs.Tallies.{one-most}
 use Rattle.book.proofs.Walking.{below-wider}
+use Rattle.book.proofs.Once.{once}
 use Rattle.book.proofs.Writers.{noLightpath, row-here, held-short, held-reach}
 use Rattle.judgement.specs.Judgement.{rides, sum, one}
 use Rattle.judgement.specs.Holding.{Held, Room, Counted, LoadsOf}
-use Rattle.judgement.proofs.Stations.{counts}
+use Rattle.book.proofs.Bounds.{counts}
 use Rattle.judgement.proofs.Sums.{sum-next, sum-alike, sum-most}
-use Rattle.judgement.proofs.Once.{once}
 
 -- how often a span stands in a route, place by place
 pub count-most : (x : ℕ) (r : List ℕ) → count x r ≤ length r

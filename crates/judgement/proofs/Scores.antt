@@ -7,16 +7,14 @@ use mathlib.Core.Bool.{Bool, true, false, not, _&&_, true≢false}
 use native.Mathlib.Nat.{le-trans}
 use native.Mathlib.Omega.{arith}
 use lib.ListN.{length}
-use Rattle.book.specs.Book.{RouteBook, lightpathEnds, lengthFits, wellFormed}
+use Rattle.book.specs.Book.{RouteBook, wellFormed}
 use Rattle.book.specs.Bits.{has}
-use Rattle.book.specs.Choice.{lightpathAt}
 use borrow.Author.Tests.{not-true}
 use Rattle.book.proofs.Tests.{and-inv, and-both}
-use Rattle.book.proofs.Stands.{length-most}
+use Rattle.book.proofs.Bounds.{counts, ends-stations, ends-lt}
 use Rattle.judgement.specs.Network.{Link, Joined, start, more, sideOf}
-use Rattle.judgement.specs.Judgement.{rides, sum, one, load, network, without, allUp, apart, scoreF, scoreFc}
+use Rattle.judgement.specs.Judgement.{rides, one, network, without, allUp, apart, scoreF}
 use Rattle.judgement.specs.Cuts.{AllJoined}
-use Rattle.judgement.proofs.Stations.{counts, lightpath-fits, ends-stations, ends-lt}
 use Rattle.judgement.proofs.Whole.{joined-to}
 use Rattle.judgement.proofs.Chains.{join-trans, join-sym, join-bind}
 use Rattle.judgement.proofs.Sums.{sum-none, none-sum, sum-le}

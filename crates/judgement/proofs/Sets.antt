@@ -1,31 +1,14 @@
--- Sets of numbers below a width, as numbers: two with the same members are equal, the lowest member, how many there are, and one member more.
+-- Sets of numbers below a width, as numbers: the lowest member, and how many there are, so that a set within another that has as many is the other.
 -- All of it is over the width, so that a side of one word and one of several rest on the same laws.
-use Prim.Native.Nat.{ℕ, zero, suc, _+_, _-_, _*_, _/_, _%_, _^_, _<_, _≤_, min, max, zero-le, suc-le-suc}
+use Prim.Native.Nat.{ℕ, zero, suc, _+_, _/_, _%_, _^_, _<_, _≤_, zero-le}
 use mathlib.Core.Path.{_≡_, refl, sym, ap, _∙_}
-use mathlib.Core.Logic.{_⊎_, inl, inr}
-use mathlib.Core.Bool.{Bool, true}
 use native.Mathlib.Decide.{decLt, ℕ-discrete}
 use native.Mathlib.Omega.{arith}
-use lib.Dec.{eqb}
 use lib.Arith.{lt-one}
-use lib.Pow.{pow-lt}
-use lib.Bits.{or-lt, or-add-and, and-le-r, or-zero-l}
 use lib.Count.{trailingZeros, under, ones, ones-step}
-use borrow.Author.Tests.{eqb-true, eq-eqb}
-use Rattle.book.specs.Bits.{bit, has, put}
-use Rattle.book.proofs.Bits.{bit-lt, bit-zero, bit-suc, bit-or, put-same, put-other}
+use Rattle.book.specs.Bits.{bit}
+use Rattle.book.proofs.Bits.{bit-lt, bit-zero, bit-suc, bit-ext}
 use Rattle.judgement.specs.Network.{size}
-
--- two sets with the same numbers below the width are equal
-pub bit-ext : (k a b : ℕ) → a < 2 ^ k → b < 2 ^ k → ((i : ℕ) → i < k → bit a i ≡ bit b i) → a ≡ b
-bit-ext zero a b ha hb h = omega arith
-bit-ext (suc k) a b ha hb h =
-    let low : a % 2 ≡ b % 2 = sym (bit-zero a) ∙ h 0 (suc-le-suc zero-le) ∙ bit-zero b in
-    let high : a / 2 ≡ b / 2 =
-    bit-ext k (a / 2) (b / 2) (omega arith) (omega arith)
-    (λ i l. sym (bit-suc a i) ∙ h (suc i) (suc-le-suc l) ∙ bit-suc b i)
-    in
-    omega arith
 
 -- the lowest number in a set
 pub low-in : (k x : ℕ) → trailingZeros k x < k → bit x (trailingZeros k x) ≡ 1
@@ -68,47 +51,6 @@ pub ones-size : (k x : ℕ) → x < 2 ^ k → ones x ≡ size k x
 unfolding size ones
 ones-size zero x h = ap ones (lt-one h)
 ones-size (suc k) x h = ones-step x ∙ ap (λ (n : ℕ). x % 2 + n) (ones-size k (x / 2) (omega arith)) ∙ sym (size-suc k x)
-
-pub put-keeps : (x i j : ℕ) → bit x j ≡ 1 → bit (put x i) j ≡ 1
-unfolding put
-put-keeps x i j e = bit-or x (2 ^ i) j ∙ omega (arith, bit-lt (2 ^ i) j)
-
-pub put-inv : (x i j : ℕ) → bit (put x i) j ≡ 1 → (bit x j ≡ 1) ⊎ (j ≡ i)
-put-inv x i j e = go (ℕ-discrete j i)
-  where
-    go : Dec (j ≡ i) → (bit x j ≡ 1) ⊎ (j ≡ i)
-    go (yes y) = inr y
-    go (no n) = inl (sym (put-other x i j n) ∙ e)
-
-pub put-lt : (k x i : ℕ) → x < 2 ^ k → i < k → put x i < 2 ^ k
-unfolding put
-put-lt k x i h l = or-lt k x (2 ^ i) h (pow-lt l)
-
-pub put-le : (x i : ℕ) → x ≤ put x i
-unfolding put
-put-le x i = omega (arith, or-add-and x (2 ^ i), and-le-r x (2 ^ i))
-
--- two bits of which each is set where the other is
-pub bit-iff : (x y i : ℕ) → (bit x i ≡ 1 → bit y i ≡ 1) → (bit y i ≡ 1 → bit x i ≡ 1) → bit x i ≡ bit y i
-bit-iff x y i f g = go (ℕ-discrete (bit x i) 1) (ℕ-discrete (bit y i) 1)
-  where
-    go : Dec (bit x i ≡ 1) → Dec (bit y i ≡ 1) → bit x i ≡ bit y i
-    go (yes p) _ = p ∙ sym (f p)
-    go (no p) (yes q) = absurd (p (g q))
-    go (no p) (no q) = omega (arith, bit-lt x i, bit-lt y i)
-
-pub put-zero : (i : ℕ) → put 0 i ≡ 2 ^ i
-unfolding put
-put-zero i = or-zero-l (2 ^ i)
-
--- membership as a test
-pub has-true : (x i : ℕ) → bit x i ≡ 1 → has x i ≡ true
-unfolding has
-has-true x i e = eq-eqb (bit x i) 1 e
-
-pub true-has : (x i : ℕ) → has x i ≡ true → bit x i ≡ 1
-unfolding has
-true-has x i e = eqb-true (bit x i) 1 e
 
 -- a set within another has no more members, and is the other where it has as many
 module _ (a b : ℕ) (within : (i : ℕ) → bit a i ≡ 1 → bit b i ≡ 1) where

@@ -9,12 +9,14 @@ use lib.Dec.{eqb}
 use borrow.Author.Tests.{eqb-true, eq-eqb, ne-eqb}
 use Rattle.book.specs.Book.{RouteBook, wellFormed}
 use Rattle.book.specs.Bits.{has}
+use Rattle.book.proofs.Bits.{bit-iff, bit-ext, has-true, true-has}
+use Rattle.book.proofs.Bounds.{stations-lt, ends-stations, ends-lt}
 use Rattle.judgement.specs.Network.{Joined, start, more, sideOf, size}
 use Rattle.judgement.specs.Judgement.{network, stations, lowest, side, whole}
 use Rattle.judgement.specs.Cuts.{AllJoined}
-use Rattle.judgement.proofs.Sets.{bit-ext, bit-iff, has-true, true-has, size-same}
+use Rattle.judgement.proofs.Sets.{size-same}
 use Rattle.judgement.proofs.Joins.{side-joined, side-grown}
-use Rattle.judgement.proofs.Stations.{stations-lt, lowest-lt, lowest-has, ends-stations, ends-lt}
+use Rattle.judgement.proofs.Stations.{lowest-lt, lowest-has}
 
 module _ (m : RouteBook) (good : wellFormed m ≡ true) (up : ℕ → Bool) where
   -- the side of any node holds just what is joined to that

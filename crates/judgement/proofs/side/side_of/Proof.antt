@@ -5,8 +5,8 @@ use mathlib.Core.List.{List}
 use Prim.Native.Nat.{ℕ, _-_, _^_, _<_}
 use native.Mathlib.Omega.{arith}
 use lib.ListN.{getD}
+use Rattle.book.proofs.Bits.{put-zero}
 use Rattle.judgement.specs.Inside.{netOf, upOf, Fits}
-use Rattle.judgement.proofs.Sets.{put-zero}
 use Rattle.judgement.proofs.Joins.{Growing, growing-start, growing-sweep, side-is, sweep-more}
 use Rattle.judgement.proofs.side.side_of.Statement.{statement}
 use Rattle.judgement.proofs.side.side_of.Tie as tie

@@ -9,9 +9,8 @@ use native.Mathlib.Omega.{arith}
 use lib.ListN.{length}
 use lib.Dec.{eqb}
 use borrow.Author.Tests.{eq-eqb, ne-eqb, eqb-true}
 use Rattle.book.specs.Book.{Span, Ends, Route, among, below, count, lengthFits, spanAt, touches, far, walks, routeFits}
 use Rattle.book.proofs.Tests.{and-inv}
-use Rattle.judgement.specs.Judgement.{one}
 
 -- what a list has, it has with one more; and the one more
 among-more : (x y : ℕ) (ys : List ℕ) → among x ys ≡ true → among x (y ∷ ys) ≡ true
@@ -76,7 +75,7 @@ module _ (sps : List Span) where
       go true e h = (among-more a b met (ap (λ (n : ℕ). among n met) (eqb-true a p e) ∙ hp), among-first b b met refl)
       go false e h = (among-first a a met refl, among-more b a met (ap (λ (n : ℕ). among n met) (eqb-true b p h) ∙ hp))
 
-  walk-once : (x : ℕ) (r met : List ℕ) (p t : ℕ) → among p met ≡ true → walks sps met p r t ≡ true → count x r ≡ one (among x r)
+  walk-once : (x : ℕ) (r met : List ℕ) (p t : ℕ) → among p met ≡ true → walks sps met p r t ≡ true → count x r ≡ cond (among x r) 1 0
   unfolding count
   walk-once x [] met p t hp w = refl
   walk-once x (y ∷ ys) met p t hp w =
@@ -84,7 +83,7 @@ module _ (sps : List Span) where
       let q = far (spanAt sps y) p in
       go s (ℕ-discrete x y) (walk-once x ys (q ∷ met) q t (among-first q q met refl) (s .on))
     where
-      go : Step met p y ys t → Dec (x ≡ y) → count x ys ≡ one (among x ys) → cond (eqb y x) 1 0 + count x ys ≡ one (eqb x y || among x ys)
+      go : Step met p y ys t → Dec (x ≡ y) → count x ys ≡ cond (among x ys) 1 0 → cond (eqb y x) 1 0 + count x ys ≡ cond (eqb x y || among x ys) 1 0
       go s (yes e) ih =
           let q = far (spanAt sps y) p in
           let z : count x ys ≡ 0 = gone x ys (q ∷ met) q t (subst (Met (q ∷ met)) (sym e) (passed met p y hp (s .ends))) (s .on) in
@@ -92,7 +91,7 @@ module _ (sps : List Span) where
       go s (no n) ih = rw (ne-eqb y x (λ e. n (sym e)), ne-eqb x y n) (omega (arith, ih))
 
   -- THE LAW
-  pub once : (e : Ends) (r : Route) → routeFits sps e r ≡ true → (x : ℕ) → count x (r .spans) ≡ one (among x (r .spans))
+  pub once : (e : Ends) (r : Route) → routeFits sps e r ≡ true → (x : ℕ) → count x (r .spans) ≡ cond (among x (r .spans)) 1 0
   once e r h x =
       let a = and-inv {a = lengthFits (length (r .spans))} h in
       let b = and-inv {a = below (length sps) (r .spans)} (a .1) in
