@@ -1,8 +1,8 @@
 -- A ROUTE HOLDS NO SPAN TWICE: a walk that has passed a span has met both its ends, and would have to meet one of them again to pass it once more.
 -- So how often a span stands in a route is 1 where the route holds it and else 0, and counting places counts each lightpath once.
-use Prim.Native.Nat.{ℕ, _+_}
+use Prim.Native.Nat.{ℕ, _+_, _≤_, zero-le}
 use mathlib.Core.Path.{_≡_, refl, sym, ap, _∙_, subst}
-use mathlib.Core.List.{List, [], _∷_}
+use mathlib.Core.List.{List, [], _∷_, _++_}
 use mathlib.Core.Bool.{Bool, true, false, cond, not, _&&_, _||_, false≢true}
 use native.Mathlib.Decide.{ℕ-discrete}
 use native.Mathlib.Omega.{arith}
@@ -11,6 +11,22 @@ use lib.Dec.{eqb}
 use borrow.Author.Tests.{eq-eqb, ne-eqb, eqb-true}
 use Rattle.book.specs.Book.{Span, Ends, Route, among, below, count, lengthFits, spanAt, touches, far, walks, routeFits}
 use Rattle.book.proofs.Tests.{and-inv}
+use Rattle.book.proofs.Tallies.{one-most}
+
+-- how often a number stands in a list, place by place
+pub count-none : (x : ℕ) → count x [] ≡ 0
+unfolding count
+count-none x = refl
+
+pub count-most : (x : ℕ) (r : List ℕ) → count x r ≤ length r
+unfolding count
+count-most x [] = zero-le
+count-most x (y ∷ r) = omega (arith, one-most (eqb y x), count-most x r)
+
+pub count-last : (x y : ℕ) (r : List ℕ) → count x (r ++ y ∷ []) ≡ count x r + cond (eqb y x) 1 0
+unfolding count
+count-last x y [] = omega arith
+count-last x y (z ∷ r) = omega (arith, count-last x y r)
 
 -- what a list has, it has with one more; and the one more
 among-more : (x y : ℕ) (ys : List ℕ) → among x ys ≡ true → among x (y ∷ ys) ≡ true

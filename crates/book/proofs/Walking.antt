@@ -66,6 +66,11 @@ unfolding below
 below-wider n m [] l h = refl
 below-wider n m (x ∷ r) l h = let z = and-inv {a = ltb x n} h in and-both (lt-ltb x m (omega (arith, ltb-true x n (z .0)))) (below-wider n m r l (z .1))
 
+pub below-all : (n : ℕ) (r : List ℕ) → ((j : ℕ) → getD r j 0 < n) → below n r ≡ true
+unfolding below
+below-all n [] h = refl
+below-all n (x ∷ r) h = and-both (lt-ltb x n (h 0)) (below-all n r (λ j. h (suc j)))
+
 pub below-more : (n : ℕ) (r : List ℕ) (j : ℕ) → j < length r → getD r j 0 < n → below n (drop j r) ≡ below n (drop (j + 1) r)
 unfolding below
 below-more n r j l h = rw (route-cons r j l, lt-ltb (getD r j 0) n h)

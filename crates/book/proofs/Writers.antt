@@ -43,7 +43,7 @@ module _ (m : RouteBook) where
         List·getD-append (map routeOf (m .lightpaths)) (map altRoute (m .alternatives)) [] k (omega (arith, length-map (m .lightpaths) routeOf))
         ∙ List·getD-map routeOf (m .lightpaths) k noLightpath
 
-    len-here : getD (bookOf m .len) k 0 ≡ length (path k .route .spans)
+    pub len-here : getD (bookOf m .len) k 0 ≡ length (path k .route .spans)
     len-here = column-at 152 (λ (r : List ℕ). length r) (routesOf (m .lightpaths) (m .alternatives)) [] refl k ∙ ap length route-here
 
     -- its record is the first of those left

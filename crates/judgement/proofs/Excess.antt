@@ -15,14 +15,20 @@ use Rattle.book.specs.Book.{Span, RouteBook, wellFormed, among}
 use Rattle.book.specs.Memory.{bookOf}
 use Rattle.book.specs.Choice.{lightpathAt}
 use Rattle.book.proofs.Tallies.{one-most}
+use Rattle.book.proofs.Bounds.{counts}
 use Rattle.book.proofs.Lightpaths.{column-at}
 use Rattle.judgement.specs.declared.load.Overload.{Overload}
 use Rattle.judgement.specs.declared.load.Overload.the-variants.{At, Nowhere}
 use Rattle.judgement.specs.Judgement.{rides, sum, one, load, limit, firstOf, scoreFc}
-use Rattle.judgement.specs.Holding.{Held, LoadsOf}
+use Rattle.judgement.specs.Arrays.{loadIn, limitIn}
+use Rattle.judgement.specs.Holding.{Held, Loads}
 use Rattle.judgement.proofs.First.{first-alike}
 use Rattle.judgement.proofs.Sums.{sum-alike, sum-le, sum-longer, sum-most, sum-swap, among-most}
-use Rattle.judgement.proofs.Loads.{bounds, route-short}
+use Rattle.judgement.proofs.Loads.{route-short, load-in}
+
+-- the limits that the arrays have
+pub limit-in : (m : RouteBook) (x : ℕ) → limitIn (bookOf m) x ≡ limit m x
+limit-in m x = column-at 128 (λ (s : Span). s .limit) (m .spans) (record { left = 0; right = 0; limit = 0 }) refl x
 
 -- THE BOUND, and what it rests on
 module _ (m : RouteBook) (fits : wellFormed m ≡ true) where
@@ -38,41 +44,32 @@ module _ (m : RouteBook) (fits : wellFormed m ≡ true) where
   pub excess-most : scoreFc m ≤ 1536
   excess-most =
       let n = length (m .spans) in
-      omega (arith, sum-le (λ x. load m x - limit m x) (λ x. load m x) n (λ x l. sub-le (load m x) (limit m x)), loads-most n, bounds m fits)
+      omega (arith, sum-le (λ x. load m x - limit m x) (λ x. load m x) n (λ x l. sub-le (load m x) (limit m x)), loads-most n, counts m fits)
 
--- what the arrays say of span x
+-- what the loads say of span x
 module _ (b : Book) (loads : List ℕ) where
   abbrev pub overIn : ℕ → Bool
-  overIn x = ltb (getD (b .limit) x 0) (getD loads x 0)
+  overIn x = ltb (limitIn b x) (getD loads x 0)
 
   abbrev pub atIn : ℕ → Overload
-  atIn x = At x (getD loads x 0) (getD (b .limit) x 0)
+  atIn x = At x (getD loads x 0) (limitIn b x)
 
   abbrev pub excessIn : ℕ → ℕ
-  excessIn x = getD loads x 0 - getD (b .limit) x 0
+  excessIn x = getD loads x 0 - limitIn b x
 
-  module _ (all : LoadsOf b loads) (m : RouteBook) (is : b ≡ bookOf m) (fits : wellFormed m ≡ true) where
-    spans-are : b .spans ≡ length (m .spans)
-    spans-are = ap (λ (x : Book). x .spans) is
+  module _ (all : Loads b loads) where
+    pub over-is : b .spans ≤ 128 → firstOf overIn atIn Nowhere (b .spans) 0
+        ≡ firstOf (λ x. ltb (limitIn b x) (loadIn b x)) (λ x. At x (loadIn b x) (limitIn b x)) Nowhere (b .spans) 0
+    over-is few = first-alike overIn (λ x. ltb (limitIn b x) (loadIn b x)) atIn (λ x. At x (loadIn b x) (limitIn b x)) Nowhere (b .spans) 0
+        (λ x p q. let e = all .each x (omega arith) in (ap (ltb (limitIn b x)) e, ap (λ (l : ℕ). At x l (limitIn b x)) e))
 
-    load-is : (x : ℕ) → x < b .spans → getD loads x 0 ≡ load m x
-    load-is x l = all m is fits .each x (omega (arith, spans-are, bounds m fits))
+    module _ (m : RouteBook) (is : b ≡ bookOf m) (fits : wellFormed m ≡ true) where
+      pub excess-is : sum excessIn (b .spans) ≡ scoreFc m
+      excess-is =
+          let n : b .spans ≡ length (m .spans) = ap (λ (y : Book). y .spans) is in
+          sum-alike excessIn (λ x. load m x - limit m x) (b .spans)
+          (λ x l. ap₂ (λ (y z : ℕ). y - z) (all .each x (omega (arith, counts m fits)) ∙ ap (λ (y : Book). loadIn y x) is ∙ load-in m fits x) (ap (λ (y : Book). limitIn y x) is ∙ limit-in m x))
+          ∙ ap (sum (λ x. load m x - limit m x)) n
 
-    limit-is : (x : ℕ) → getD (b .limit) x 0 ≡ limit m x
-    limit-is x = ap (λ (y : Book). getD (y .limit) x 0) is ∙ column-at 128 (λ (s : Span). s .limit) (m .spans) (record { left = 0; right = 0; limit = 0 }) refl x
-
-    -- so it is what the book says
-    pub over-is : firstOf overIn atIn Nowhere (b .spans) 0
-        ≡ firstOf (λ x. ltb (limit m x) (load m x)) (λ x. At x (load m x) (limit m x)) Nowhere (length (m .spans)) 0
-    over-is =
-        first-alike overIn (λ x. ltb (limit m x) (load m x)) atIn (λ x. At x (load m x) (limit m x)) Nowhere (b .spans) 0
-        (λ x p q. let e = load-is x (omega arith) in (ap₂ ltb (limit-is x) e, ap₂ (At x) e (limit-is x)))
-        ∙ ap (λ (n : ℕ). firstOf (λ x. ltb (limit m x) (load m x)) (λ x. At x (load m x) (limit m x)) Nowhere n 0) spans-are
-
-    pub excess-is : sum excessIn (b .spans) ≡ scoreFc m
-    excess-is =
-        sum-alike excessIn (λ x. load m x - limit m x) (b .spans) (λ x l. ap₂ (λ (y z : ℕ). y - z) (load-is x l) (limit-is x))
-        ∙ ap (sum (λ x. load m x - limit m x)) spans-are
-
-  pub excess-low : Held b → LoadsOf b loads → (k : ℕ) → k ≤ b .spans → sum excessIn k ≤ 1536
+  pub excess-low : Held b → Loads b loads → (k : ℕ) → k ≤ b .spans → sum excessIn k ≤ 1536
   excess-low h all k l = omega (arith, sum-longer excessIn k (b .spans) l, excess-is all (h .book) (h .is) (h .fits), excess-most (h .book) (h .fits))

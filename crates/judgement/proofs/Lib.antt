@@ -10,12 +10,14 @@ pub mod Sums
 pub mod Cuts
 pub mod Verdicts
 pub mod Changes
+pub mod Usable
 pub mod Loads
 pub mod Excess
 pub mod Scores
 pub mod Tables
 pub mod Held
 pub mod Found
+pub mod Arrays
 pub mod Apart
 pub mod Opened
 pub mod Cards

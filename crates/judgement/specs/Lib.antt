@@ -6,5 +6,6 @@ pub mod Judgement
 pub mod Cuts
 pub mod Meaning
 pub mod Answers
+pub mod Arrays
 pub mod Inside
 pub mod Holding

@@ -1,4 +1,4 @@
-// The verdict on a book as it stands.
+// The verdict on a book as it stands, and so on the book that a choice makes.
 use crate::Verdict;
 use crate::load;
 use crate::load::Overload;
@@ -6,15 +6,13 @@ use crate::side;
 use crate::side::Side;
 use book::Book;
 ghost use mathlib.Core.Path.{_≡_};
-ghost use mathlib.Core.Bool.{true};
 ghost use Prim.Native.Nat.{_≤_, _<_};
-ghost use lib.Count.{trailingZeros};
 ghost use lib.ListN.{length};
-ghost use Rattle.book.specs.Book.{RouteBook, wellFormed};
-ghost use Rattle.book.specs.Memory.{bookOf};
-ghost use Rattle.judgement.specs.Judgement.{firstOf, cutOrOkay, splitOr, verdict};
+ghost use Rattle.book.specs.Book.{below};
+ghost use Rattle.judgement.specs.Judgement.{firstOf};
+ghost use Rattle.judgement.specs.Arrays.{usable, lowestIn, cutOrOkayIn, splitOrIn, verdictIn};
 ghost use Rattle.judgement.specs.Inside.{Fits, partsIn, cutIn};
-ghost use Rattle.judgement.specs.Holding.{Held};
+ghost use Rattle.judgement.specs.Holding.{Usable};
 
 // The lowest span that parts the stations, with the side then.
 pub(crate) enum Parted {
@@ -41,8 +39,8 @@ fn first_cut(b: Book, start: u8, words: [u64; 152], base: u8, count: u8) -> Part
 
 // CUT at the lowest span whose loss parts the stations, or OK: the spans below 64 are looked at first, then the others.
 fn cut_or_okay(b: Book, start: u8) -> Verdict
-    requires { ⌜ Held b × (start ≡ trailingZeros 64 (b .stations)) ⌝ }
-    ensures { λ r. ⌜ ((m : RouteBook) → b ≡ bookOf m → wellFormed m ≡ true → r ≡ cutOrOkay m) ⌝ }
+    requires { ⌜ Usable b × (start ≡ lowestIn b) ⌝ }
+    ensures { λ r. ⌜ r ≡ cutOrOkayIn b ⌝ }
 {
     let spans = b.spans;
     let few = side::low_spans(spans);
@@ -61,8 +59,8 @@ fn cut_or_okay(b: Book, start: u8) -> Verdict
 
 // SPLIT where with all lightpaths up some station is not joined, or what `cut_or_okay` says.
 fn split_or(b: Book) -> Verdict
-    requires { ⌜ Held b ⌝ }
-    ensures { λ r. ⌜ ((m : RouteBook) → b ≡ bookOf m → wellFormed m ≡ true → r ≡ splitOr m) ⌝ }
+    requires { ⌜ Usable b ⌝ }
+    ensures { λ r. ⌜ r ≡ splitOrIn b ⌝ }
 {
     let all = Side { mask: b.stations };
     let start = all.lowest();
@@ -74,11 +72,50 @@ fn split_or(b: Book) -> Verdict
     cut_or_okay(b, start)
 }
 
-// OVER at the lowest span whose load exceeds its limit, or what `split_or` says.
-pub(crate) fn verdict_of(b: Book) -> Verdict
-    requires { ⌜ Held b ⌝ }
-    ensures { λ r. ⌜ ((m : RouteBook) → b ≡ bookOf m → wellFormed m ≡ true → r ≡ verdict m) ⌝ }
+// Whether all numbers are those of nodes.
+fn all_nodes(xs: &[u8]) -> bool
+    ensures { λ r. ⌜ r ≡ below 64 (now (xs .entry)) ⌝ }
 {
+    let mut k = 0;
+    while k < xs.len() {
+        if 63 < xs[k] {
+            return false;
+        }
+        k += 1;
+    }
+    true
+}
+
+// Whether the counts and ends of a struct are such as a book can have, so that each of its arrays can be read without a further test.
+fn usable(b: Book) -> bool
+    ensures { λ r. ⌜ r ≡ usable b ⌝ }
+{
+    if 96 < b.lightpaths {
+        return false;
+    }
+    if 128 < b.spans {
+        return false;
+    }
+    let all = Side { mask: b.stations };
+    let start = all.lowest();
+    if 63 < start {
+        return false;
+    }
+    let from = b.from;
+    let to = b.to;
+    if !all_nodes(&from) {
+        return false;
+    }
+    all_nodes(&to)
+}
+
+// The verdict on a book in memory: OVER at the lowest span whose load exceeds its limit, or what `split_or` says.
+pub fn verdict_of(b: Book) -> Verdict
+    ensures { λ r. ⌜ r ≡ verdictIn b ⌝ }
+{
+    if !usable(b) {
+        return Verdict::Split(0);
+    }
     let loads = load::loads_of(b);
     let first = load::first_over(b, loads);
     match first {

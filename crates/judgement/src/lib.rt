@@ -1,5 +1,5 @@
 // The judgement of a choice of routes: loads, sides, the verdict, the question about a span, and the score. docs/JUDGEMENT.md says what each is.
-mod kind;
+pub mod kind;
 mod load;
 mod pairs;
 mod question;

@@ -2,13 +2,13 @@
 use book::Book;
 ghost use mathlib.Core.Path.{_≡_};
 ghost use mathlib.Core.Bool.{true};
-ghost use Prim.Native.Nat.{_-_};
+ghost use Prim.Native.Nat.{_-_, min};
 ghost use lib.Dec.{ltb};
-ghost use lib.ListN.{length};
 ghost use Rattle.book.specs.Book.{RouteBook, wellFormed};
 ghost use Rattle.book.specs.Memory.{bookOf};
-ghost use Rattle.judgement.specs.Judgement.{load, limit, firstOf, scoreFc};
-ghost use Rattle.judgement.specs.Holding.{Held, Room, Counted, LoadsOf};
+ghost use Rattle.judgement.specs.Judgement.{firstOf, scoreFc};
+ghost use Rattle.judgement.specs.Arrays.{loadIn, limitIn};
+ghost use Rattle.judgement.specs.Holding.{Held, Usable, Room, Counted, Loads};
 ghost use Rattle.judgement.specs.declared.load.Overload.the-variants.{At, Nowhere};
 
 // The lowest span whose load exceeds its limit, with its load and limit; or that there is none.
@@ -17,7 +17,7 @@ pub(crate) enum Overload {
     Nowhere,
 }
 
-// The loads with one route more.
+// The loads with one route more; a number that no span has is passed over.
 fn add_route(loads: [u16; 128], route: &[u8]) -> [u16; 128]
     requires { ⌜ Room loads (now route) ⌝ }
     ensures { λ r. ⌜ Counted loads (now (route .entry)) r ⌝ }
@@ -26,16 +26,25 @@ fn add_route(loads: [u16; 128], route: &[u8]) -> [u16; 128]
     let mut j = 0;
     while j < route.len() {
         let x = route[j] as usize;
-        l[x] = l[x] + 1;
+        if x < 128 {
+            l[x] = l[x] + 1;
+        }
         j += 1;
     }
     l
 }
 
+// How many places of a row are the route.
+fn row_len(len: u8) -> usize
+    ensures { λ r. ⌜ r ≡ min len 16 ⌝ }
+{
+    if len < 16 { len as usize } else { 16 }
+}
+
 // The loads of a book's spans: how many lightpaths ride each. The route of lightpath k stands at the start of row k, which has 16 places.
 pub(crate) fn loads_of(b: Book) -> [u16; 128]
-    requires { ⌜ Held b ⌝ }
-    ensures { λ r. ⌜ LoadsOf b r ⌝ }
+    requires { ⌜ Usable b ⌝ }
+    ensures { λ r. ⌜ Loads b r ⌝ }
 {
     let n = b.lightpaths as usize;
     let rows = b.route;
@@ -43,7 +52,7 @@ pub(crate) fn loads_of(b: Book) -> [u16; 128]
     let mut k = 0;
     while k < n {
         let start = 16 * k;
-        let end = start + (b.len[k] as usize);
+        let end = start + row_len(b.len[k]);
         let next = add_route(loads, &rows[start..end]);
         loads = next;
         k += 1;
@@ -53,9 +62,8 @@ pub(crate) fn loads_of(b: Book) -> [u16; 128]
 
 // The lowest span that is over its limit, given the loads of the book.
 pub(crate) fn first_over(b: Book, loads: [u16; 128]) -> Overload
-    requires { ⌜ Held b × LoadsOf b loads ⌝ }
-    ensures { λ r. ⌜ ((m : RouteBook) → b ≡ bookOf m → wellFormed m ≡ true
-        → r ≡ firstOf (λ x. ltb (limit m x) (load m x)) (λ x. At x (load m x) (limit m x)) Nowhere (length (m .spans)) 0) ⌝ }
+    requires { ⌜ Usable b × Loads b loads ⌝ }
+    ensures { λ r. ⌜ r ≡ firstOf (λ x. ltb (limitIn b x) (loadIn b x)) (λ x. At x (loadIn b x) (limitIn b x)) Nowhere (b .spans) 0 ⌝ }
 {
     let n = b.spans as usize;
     let mut k = 0;
@@ -80,7 +88,7 @@ fn above(load: u16, limit: u8) -> u16
 
 // The sum of all loads above their limits, given the loads of the book: the score Fc.
 pub(crate) fn excess(b: Book, loads: [u16; 128]) -> u16
-    requires { ⌜ Held b × LoadsOf b loads ⌝ }
+    requires { ⌜ Held b × Loads b loads ⌝ }
     ensures { λ r. ⌜ ((m : RouteBook) → b ≡ bookOf m → wellFormed m ≡ true → r ≡ scoreFc m) ⌝ }
 {
     let n = b.spans as usize;

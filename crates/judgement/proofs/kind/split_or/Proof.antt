@@ -2,9 +2,7 @@
 -- The lowest station is found in the struct's own set of stations.
 use mathlib.Core.Path.{_∙_}
 use native.Mathlib.Omega.{arith}
-use Rattle.judgement.specs.Judgement.{lowest}
-use Rattle.judgement.proofs.Stations.{lowest-lt}
-use Rattle.judgement.proofs.Held.{held-fits, start-is, side-up}
+use Rattle.judgement.proofs.Usable.{usable-start, usable-fits}
 use Rattle.judgement.proofs.Found.{is-split, not-split}
 use borrow.Author.Needs.{needs}
 use Rattle.judgement.proofs.kind.split_or.Statement.{statement}
@@ -19,17 +17,16 @@ cast-n c = search needs
 side-whole-requires : tie.Need-side-whole-requires
 side-whole-requires c κs =
     let q = c .before .before .before .before .pre in
-    let z = start-is (q .book) (q .is) (c .before .before .before .lowest .ensures) in
-    (omega (arith, z, lowest-lt (q .book) (q .fits)), held-fits (q .book) (q .fits) (q .is))
+    (omega (arith, c .before .before .before .lowest .ensures, usable-start q), usable-fits q (search needs) (search needs))
 
 returns : tie.Need-returns
-returns c m e good = is-split m good e (start-is m e (c .before .before .before .before .before .before .lowest .ensures)) (c .before .before .side-whole .ensures ∙ rw (start-is m e (c .before .before .before .before .before .before .lowest .ensures)) (side-up m e (lowest m))) (c .if1 .taken)
+returns c = is-split (c .before .before .before .before .before .before .before .args .t1) (c .before .before .before .before .before .before .lowest .ensures) (c .before .before .side-whole .ensures) (c .if1 .taken)
 
 cut-or-okay-requires : tie.Need-cut-or-okay-requires
 cut-or-okay-requires c κs = search needs
 
 returns-2 : tie.Need-returns-2
-returns-2 c m e good = c .cut-or-okay .ensures m e good ∙ not-split m good e (start-is m e (c .before .before .before .before .before .before .before .lowest .ensures)) (c .before .before .before .side-whole .ensures ∙ rw (start-is m e (c .before .before .before .before .before .before .before .lowest .ensures)) (side-up m e (lowest m))) (c .before .if1 .left)
+returns-2 c = c .cut-or-okay .ensures ∙ not-split (c .before .before .before .before .before .before .before .before .args .t1) (c .before .before .before .before .before .before .before .lowest .ensures) (c .before .before .before .side-whole .ensures) (c .before .if1 .left)
 
 pub split-or-spec : {M : Type 1} → statement M
 split-or-spec =

@@ -6,7 +6,7 @@ use mathlib.Core.Path.{_≡_, refl, ap, _∙_}
 use Prim.Native.Nat.{_-_, _+_, _≤_, _<_, zero-le}
 use Rattle.judgement.specs.Judgement.{sum}
 use Rattle.judgement.proofs.Sums.{sum-next}
-use Rattle.judgement.proofs.Loads.{held-spans}
+use Rattle.judgement.proofs.Usable.{held-spans}
 use Rattle.judgement.proofs.Excess.{excessIn, excess-is, excess-low}
 use Rattle.judgement.proofs.load.excess.Statement.{statement}
 use Rattle.judgement.proofs.load.excess.Tie as tie

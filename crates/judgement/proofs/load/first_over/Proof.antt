@@ -7,7 +7,7 @@ use mathlib.Core.Path.{sym, _∙_}
 use Prim.Native.Nat.{_-_, _<_}
 use Rattle.judgement.specs.declared.load.Overload.the-variants.{Nowhere}
 use Rattle.judgement.proofs.First.{Looking, looking-start, looking-next, looking-hit, looking-end}
-use Rattle.judgement.proofs.Loads.{held-spans}
+use Rattle.judgement.proofs.Usable.{usable-spans}
 use Rattle.judgement.proofs.Excess.{overIn, atIn, over-is}
 use Rattle.judgement.proofs.load.first_over.Statement.{statement}
 use Rattle.judgement.proofs.load.first_over.Tie as tie
@@ -19,7 +19,7 @@ abbrev μ-loop : tie.MeasureT-loop
 μ-loop b loads n k₀ k = n - k
 
 low : (c : tie.In-loop Inv-loop μ-loop) → c .before .loop .k < 128
-low c = omega (arith, c .loop-test .taken, held-spans (c .before .before .pre .0))
+low c = omega (arith, c .loop-test .taken, usable-spans (c .before .before .pre .0))
 
 cast-n : tie.Need-cast-n Inv-loop μ-loop
 cast-n c = search needs
@@ -43,9 +43,9 @@ cast-t18 : tie.Need-cast-t18 Inv-loop μ-loop
 cast-t18 c = search needs
 
 returns : tie.Need-returns Inv-loop μ-loop
-returns c m is fits =
+returns c =
     let s = c .before .before .before .before in
-    sym (looking-hit _ _ _ (c .before .before .before .loop .inv) (c .before .before .loop-test .taken) (lt-ltb _ _ (c .if1 .taken))) ∙ over-is _ _ (s .pre .1) m is fits
+    sym (looking-hit _ _ _ (c .before .before .before .loop .inv) (c .before .before .loop-test .taken) (lt-ltb _ _ (c .if1 .taken))) ∙ over-is _ _ (s .pre .1) (usable-spans (s .pre .0))
 
 add-k : tie.Need-add-k Inv-loop μ-loop
 add-k c = search needs
@@ -57,7 +57,7 @@ loop-again : tie.Need-loop-again Inv-loop μ-loop
 loop-again c = looking-next _ _ _ (c .before .before .before .loop .inv) (c .before .before .loop-test .taken) (le-ltb _ _ (c .if1 .left))
 
 returns-2 : tie.Need-returns-2 Inv-loop μ-loop
-returns-2 c m is fits = sym (looking-end _ _ _ (c .before .loop .inv) (c .loop-test .left)) ∙ over-is _ _ (c .before .before .pre .1) m is fits
+returns-2 c = sym (looking-end _ _ _ (c .before .loop .inv) (c .loop-test .left)) ∙ over-is _ _ (c .before .before .pre .1) (usable-spans (c .before .before .pre .0))
 
 pub first-over-spec : {M : Type 1} → statement M
 first-over-spec =

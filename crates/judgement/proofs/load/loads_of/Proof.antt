@@ -1,11 +1,13 @@
 -- After k turns each load is the number of times that its span stands in the first k rows.
--- A row is a route, which holds no span twice; so after the last turn each load counts the lightpaths that ride the span.
+-- No row is longer than 16 places, so no load is too large for its place.
 use borrow.Author.Needs.{needs}
 use native.Mathlib.Omega.{arith}
 use Prim.Native.Nat.{_-_, _*_, _≤_}
-use lib.ListN.{getD}
+use mathlib.Core.Path.{_≡_}
+use lib.ListN.{length}
 use Rattle.book.proofs.Routes.{lent}
-use Rattle.judgement.proofs.Loads.{held-many, held-len, held-end, Tallied, tallied-start, tallied-room, tallied-next, tallied-done}
+use Rattle.judgement.proofs.Usable.{usable-lightpaths}
+use Rattle.judgement.proofs.Loads.{Tallied, tallied-start, tallied-room, tallied-next, tallied-done}
 use Rattle.judgement.proofs.load.loads_of.Statement.{statement}
 use Rattle.judgement.proofs.load.loads_of.Tie as tie
 
@@ -17,10 +19,7 @@ abbrev μ-loop : tie.MeasureT-loop
 
 module _ (c : tie.In-loop Inv-loop μ-loop) where
   few : c .before .loop .k ≤ 95
-  few = omega (arith, held-many (c .before .before .before .pre), c .loop-test .taken)
-
-  short : getD (c .before .before .before .args .t1 .len) (c .before .loop .k) 0 ≤ 16
-  short = held-len (c .before .before .before .pre) (c .before .loop .k) (c .loop-test .taken)
+  few = omega (arith, usable-lightpaths (c .before .before .before .pre), c .loop-test .taken)
 
 cast-n : tie.Need-cast-n Inv-loop μ-loop
 cast-n c = search needs
@@ -31,14 +30,14 @@ loop-holds c = tallied-start _
 mul-start : tie.Need-mul-start Inv-loop μ-loop
 mul-start c = omega (arith, few c)
 
-element-copy-out-end : tie.Need-element-copy-out-end Inv-loop μ-loop
-element-copy-out-end c = omega (arith, few c)
+element-copy-out-row-len : tie.Need-element-copy-out-row-len Inv-loop μ-loop
+element-copy-out-row-len c = omega (arith, few c)
 
-cast-end : tie.Need-cast-end Inv-loop μ-loop
-cast-end c = search needs
+row-len-requires : tie.Need-row-len-requires Inv-loop μ-loop
+row-len-requires c κs = search needs
 
 add-end : tie.Need-add-end Inv-loop μ-loop
-add-end c = omega (arith, few (c .before), short (c .before))
+add-end c = omega (arith, c .row-len .ensures, few (c .before .before))
 
 sub-add-route : tie.Need-sub-add-route Inv-loop μ-loop
 sub-add-route c = search needs
@@ -47,14 +46,15 @@ part-add-route-start : tie.Need-part-add-route-start Inv-loop μ-loop
 part-add-route-start c = search needs
 
 part-add-route-end : tie.Need-part-add-route-end Inv-loop μ-loop
-part-add-route-end c = let i = c .before .before in omega (arith, held-end (i .before .before .before .pre) (i .before .loop .k) (i .loop-test .taken))
+part-add-route-end c =
+    let z : length (c .before .before .before .before .before .before .args .t1 .route) ≡ 2432 = search needs in
+    omega (arith, c .before .row-len .ensures, few (c .before .before .before))
 
 add-route-requires : tie.Need-add-route-requires Inv-loop μ-loop
 add-route-requires c κs =
-    let i = c .before .before .before in
-    let a = i .before .before .before .args in
-    let k = i .before .loop .k in
-    rw (lent (a .t1 .route) (16 * k) (getD (a .t1 .len) k 0)) (tallied-room _ (i .before .loop .inv) (i .before .before .before .pre) (i .loop-test .taken))
+    let a = c .before .before .before .before .before .before .before .args in
+    let l = c .before .before .before .before .before .loop in
+    rw (lent (a .t1 .route) (16 * l .k) (c .before .before .row-len .result), c .before .before .row-len .ensures) (tallied-room _ (l .inv) (usable-lightpaths (c .before .before .before .before .before .before .before .pre)))
 
 add-k : tie.Need-add-k Inv-loop μ-loop
 add-k c = search needs
@@ -64,10 +64,9 @@ loop-less c = search needs
 
 loop-again : tie.Need-loop-again Inv-loop μ-loop
 loop-again c =
-    let i = c .before .before .before .before in
-    let a = i .before .before .before .args in
-    let k = i .before .loop .k in
-    tallied-next _ (i .before .loop .inv) (i .loop-test .taken) (rw (lent (a .t1 .route) (16 * k) (getD (a .t1 .len) k 0)) at (c .add-route .ensures))
+    let a = c .before .before .before .before .before .before .before .before .args in
+    let l = c .before .before .before .before .before .before .loop in
+    tallied-next _ (l .inv) (c .before .before .before .before .before .loop-test .taken) (rw (lent (a .t1 .route) (16 * l .k) (c .before .before .before .row-len .result), c .before .before .before .row-len .ensures) at (c .add-route .ensures))
 
 returns : tie.Need-returns Inv-loop μ-loop
 returns c = tallied-done _ (c .before .loop .inv) (c .loop-test .left)
@@ -81,8 +80,8 @@ loads-of-spec =
     cast-n
     loop-holds
     mul-start
-    element-copy-out-end
-    cast-end
+    element-copy-out-row-len
+    row-len-requires
     add-end
     sub-add-route
     part-add-route-start

@@ -3,7 +3,7 @@
 use borrow.Author.Needs.{needs}
 use native.Mathlib.Omega.{arith}
 use mathlib.Core.Path.{refl}
-use Rattle.judgement.proofs.Loads.{held-spans}
+use Rattle.judgement.proofs.Usable.{held-spans}
 use Rattle.judgement.proofs.Held.{held-fits, words-long}
 use Rattle.judgement.proofs.Scores.{scoreF-most}
 use Rattle.judgement.proofs.Apart.{score-is}

@@ -1,5 +1,6 @@
 -- F and Fc are what the two functions say of the book that the struct holds.
 -- The loads are made once, for Fc.
+use Rattle.judgement.proofs.Usable.{held-usable}
 use borrow.Author.Needs.{needs}
 use Rattle.judgement.proofs.pairs.scored_of.Statement.{statement}
 use Rattle.judgement.proofs.pairs.scored_of.Tie as tie
@@ -8,7 +9,7 @@ score-f-requires : tie.Need-score-f-requires
 score-f-requires c κs = search needs
 
 loads-of-requires : tie.Need-loads-of-requires
-loads-of-requires c κs = search needs
+loads-of-requires c κs = held-usable (c .before .pre)
 
 excess-requires : tie.Need-excess-requires
 excess-requires c κs = search needs

@@ -7,7 +7,7 @@ use borrow.Author.Tests.{lt-ltb, le-ltb}
 use Rattle.book.specs.declared.Book.{Book}
 use Rattle.judgement.specs.Judgement.{without, stations}
 use Rattle.judgement.proofs.Whole.{whole-size}
-use Rattle.judgement.proofs.Loads.{held-spans}
+use Rattle.judgement.proofs.Usable.{held-spans}
 use borrow.Author.Needs.{needs}
 use Rattle.judgement.proofs.question.asked_of.Statement.{statement}
 use Rattle.judgement.proofs.question.asked_of.Tie as tie
