@@ -18,4 +18,5 @@ pub mod Held
 pub mod Found
 pub mod Apart
 pub mod Opened
+pub mod Demand
 pub mod Cards
