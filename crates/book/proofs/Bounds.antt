@@ -34,7 +34,8 @@ module _ (m : RouteBook) (good : wellFormed m ≡ true) where
     pub lightpath-fits : lightpathFits (m .nodes) (m .spans) (lightpathAt (m .lightpaths) k) ≡ true
     lightpath-fits = every-at (lightpathFits (m .nodes) (m .spans)) (lightpathAt [] 0) [] (m .lightpaths) (parts m good .lightpaths) k l
 
-    pub ends-stations : (has (stationSet (m .nodes)) (lightpathAt (m .lightpaths) k .ends .from) ≡ true) × (has (stationSet (m .nodes)) (lightpathAt (m .lightpaths) k .ends .to) ≡ true)
+    pub ends-stations : (has (stationSet (m .nodes)) (lightpathAt (m .lightpaths) k .ends .from) ≡ true)
+        × (has (stationSet (m .nodes)) (lightpathAt (m .lightpaths) k .ends .to) ≡ true)
     ends-stations =
         let e = lightpathAt (m .lightpaths) k .ends in
         let s = ends-both (m .nodes) e (and-inv {a = lightpathEnds (m .nodes) e} lightpath-fits .0) in

@@ -11,13 +11,12 @@ use Rattle.book.specs.declared.Reply.{Reply}
 use Rattle.book.specs.Book.{RouteBook, wellFormed}
 use Rattle.book.specs.Format.{encode, Reading, good, refused, reading}
 use Rattle.book.specs.Memory.{bookOf, emptyBook, numberOf, placeOf, shown}
-use Rattle.book.specs.Choice.{sizes, choices, digits, chosen}
+use Rattle.book.specs.Choice.{choices, chosen}
 use Rattle.book.specs.Writing.{chosenOf}
 use Rattle.book.proofs.Readers.{Bytes}
 use Rattle.book.proofs.Format.{reading-only}
-use Rattle.book.proofs.Numbering.{digits-valid}
 use Rattle.book.proofs.Unique.{refused-within}
-use Rattle.book.proofs.Chosen.{sizes-above, chosen-fits}
+use Rattle.book.proofs.Chosen.{choice-fits}
 
 -- good: the bytes b are a good book, n is below its number of choices, and the struct holds the chosen book, which is well formed
 pub record Chose (b : List ℕ) (n : ℕ) (r : Reply) : Type 0 where
@@ -33,35 +32,41 @@ pub data NotChosen (b : List ℕ) (n : ℕ) : ℕ → ℕ → Type 0 where
   at-fault : {k p : ℕ} → reading b ≡ refused k p → NotChosen b n k p
   no-choice : (m : RouteBook) → reading b ≡ good m → choices m ≤ n → NotChosen b n 12 0
 
-module _ (b : List ℕ) (n : ℕ) (r : Reply) (h : Bytes b) (met : r ≡ shown (chosenOf (reading b) n)) where
-  pub choose-good : numberOf (r .answer) ≡ 0 → Chose b n r
-  choose-good z = go (reading b) refl met
-    where
-      test : (m : RouteBook) → reading b ≡ good m → (t : Bool) → ltb n (choices m) ≡ t → r ≡ shown (cond t (good (chosen m n)) (refused 12 0)) → Chose b n r
-      test m q true l w =
-          let o = reading-only b m h q in
-          record {
-            book = m;
-            fits = o .1;
-            written = o .0;
-            below = ltb-true n (choices m) l;
-            held = ap (λ (x : Reply). x .book) w;
-            chosen-fit = chosen-fits m (digits (sizes m) n) (o .1) (digits-valid (sizes m) n (sizes-above m));
-          }
-      test m q false l w = absurd (omega (arith, z, ap (λ (x : Reply). numberOf (x .answer)) w))
+-- what reading a choice gives: the chosen book of a good book, or a refusal
+pub data ChoiceIs (b : List ℕ) (n : ℕ) : Reading → Type 0 where
+  such : (m : RouteBook) → reading b ≡ good m → n < choices m → ChoiceIs b n (good (chosen m n))
+  no-such : {k p : ℕ} → NotChosen b n k p → ChoiceIs b n (refused k p)
 
-      go : (g : Reading) → reading b ≡ g → r ≡ shown (chosenOf g n) → Chose b n r
-      go (good m) q w = test m q (ltb n (choices m)) refl w
-      go (refused k p) q w = absurd (omega (arith, z, ap (λ (x : Reply). numberOf (x .answer)) w, refused-within b k p h q .0))
+pub choice-is : (b : List ℕ) (n : ℕ) → ChoiceIs b n (chosenOf (reading b) n)
+choice-is b n = go (reading b) refl
+  where
+    test : (m : RouteBook) → reading b ≡ good m → (t : Bool) → ltb n (choices m) ≡ t → ChoiceIs b n (cond t (good (chosen m n)) (refused 12 0))
+    test m q true l = such m q (ltb-true n (choices m) l)
+    test m q false l = no-such (no-choice m q (ltb-false n (choices m) l))
 
-  pub choose-bad : (numberOf (r .answer) ≡ 0 → ⊥) → NotChosen b n (numberOf (r .answer)) (placeOf (r .answer)) × (r .book ≡ bookOf emptyBook)
-  choose-bad z = go (reading b) refl met
-    where
-      test : (m : RouteBook) → reading b ≡ good m → (t : Bool) → ltb n (choices m) ≡ t → r ≡ shown (cond t (good (chosen m n)) (refused 12 0))
-          → NotChosen b n (numberOf (r .answer)) (placeOf (r .answer)) × (r .book ≡ bookOf emptyBook)
-      test m q true l w = absurd (z (ap (λ (x : Reply). numberOf (x .answer)) w))
-      test m q false l w = (rw w (no-choice m q (ltb-false n (choices m) l)), ap (λ (x : Reply). x .book) w)
+    go : (g : Reading) → reading b ≡ g → ChoiceIs b n (chosenOf g n)
+    go (good m) q = test m q (ltb n (choices m)) refl
+    go (refused k p) q = no-such (at-fault q)
 
-      go : (g : Reading) → reading b ≡ g → r ≡ shown (chosenOf g n) → NotChosen b n (numberOf (r .answer)) (placeOf (r .answer)) × (r .book ≡ bookOf emptyBook)
-      go (good m) q w = test m q (ltb n (choices m)) refl w
-      go (refused k p) q w = (rw w (at-fault q), ap (λ (x : Reply). x .book) w)
+module _ (b : List ℕ) (n : ℕ) (h : Bytes b) where
+  -- a refusal has a number of its own
+  pub refused-above : {k p : ℕ} → NotChosen b n k p → 1 ≤ k
+  refused-above (at-fault {k} {p} q) = refused-within b k p h q .0
+  refused-above (no-choice m q l) = omega arith
+
+  module _ (r : Reply) (met : r ≡ shown (chosenOf (reading b) n)) where
+    pub choose-good : numberOf (r .answer) ≡ 0 → Chose b n r
+    choose-good z = go (choice-is b n) met
+      where
+        go : {g : Reading} → ChoiceIs b n g → r ≡ shown g → Chose b n r
+        go (such m q l) w =
+            let o = reading-only b m h q in
+            record { book = m; fits = o .1; written = o .0; below = l; held = ap (λ (x : Reply). x .book) w; chosen-fit = choice-fits m n (o .1) }
+        go (no-such x) w = absurd (omega (arith, z, ap (λ (x : Reply). numberOf (x .answer)) w, refused-above x))
+
+    pub choose-bad : (numberOf (r .answer) ≡ 0 → ⊥) → NotChosen b n (numberOf (r .answer)) (placeOf (r .answer)) × (r .book ≡ bookOf emptyBook)
+    choose-bad z = go (choice-is b n) met
+      where
+        go : {g : Reading} → ChoiceIs b n g → r ≡ shown g → NotChosen b n (numberOf (r .answer)) (placeOf (r .answer)) × (r .book ≡ bookOf emptyBook)
+        go (such m q l) w = absurd (z (ap (λ (x : Reply). numberOf (x .answer)) w))
+        go (no-such x) w = (rw w x, ap (λ (x : Reply). x .book) w)

@@ -136,6 +136,10 @@ module _ (m : RouteBook) (ds : List ℕ) (w : wellFormed m ≡ true) (v : valid 
   pub chosen-fits : wellFormed (chosenBy m ds) ≡ true
   chosen-fits = whole (chosenBy m ds) chosen-parts
 
+-- and so for every number, since its digits are valid
+pub choice-fits : (m : RouteBook) (n : ℕ) → wellFormed m ≡ true → wellFormed (chosen m n) ≡ true
+choice-fits m n w = chosen-fits m (digits (sizes m) n) w (digits-valid (sizes m) n (sizes-above m))
+
 -- it has the sizes and the number of choices of the book
 pub chosen-sizes : (m : RouteBook) (ds : List ℕ) → sizes (chosenBy m ds) ≡ sizes m
 unfolding padded
@@ -167,4 +171,4 @@ chosen-zero m ds k l = own-route (chosenBy m ds) k ∙ rerouted-at (routeBy m ds
 
 -- and it reads back
 pub chosen-reads : (m : RouteBook) (n : ℕ) → wellFormed m ≡ true → reading (encode (chosen m n)) ≡ good (chosen m n)
-chosen-reads m n w = reading-back (chosen m n) (chosen-fits m (digits (sizes m) n) w (digits-valid (sizes m) n (sizes-above m)))
+chosen-reads m n w = reading-back (chosen m n) (choice-fits m n w)

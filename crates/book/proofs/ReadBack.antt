@@ -18,9 +18,8 @@ use Rattle.book.specs.declared.write.Written.the-variants.{Length}
 use Rattle.book.proofs.Readers.{Bytes}
 use Rattle.book.proofs.Format.{reading-only}
 use Rattle.book.proofs.Longest.{longest}
-use Rattle.book.proofs.Numbering.{digits-valid}
 use Rattle.book.proofs.Unique.{refused-within}
-use Rattle.book.proofs.Chosen.{sizes-above, chosen-fits, chosen-sizes, chosen-none, chosen-zero, chosen-reads}
+use Rattle.book.proofs.Chosen.{choice-fits, chosen-sizes, chosen-none, chosen-zero, chosen-reads}
 use Rattle.book.proofs.Choices.{choices-some}
 use Rattle.book.proofs.Written.{no-such-choice, such-a-choice}
 
@@ -97,7 +96,7 @@ choice-zero b room m h e l =
 
 -- 3,976 bytes are room enough for every choice of every book
 pub room-enough : (m : RouteBook) (n : ℕ) → wellFormed m ≡ true → length (encode (chosen m n)) ≤ 3976
-room-enough m n w = longest (chosen m n) (chosen-fits m (digits (sizes m) n) w (digits-valid (sizes m) n (sizes-above m)))
+room-enough m n w = longest (chosen m n) (choice-fits m n w)
 
 -- the buffer keeps its length, begins with what is served, and is as it was beyond
 pub buffer-served : (w out : List ℕ) → length w ≤ length out

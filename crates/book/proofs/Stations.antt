@@ -22,7 +22,7 @@ unfolding stationsInto
 stations-more x k [] n = ap (putIf n x) (sym (add-zero k))
 stations-more x k (a ∷ ns) n = stations-more (putIf a x k) (suc k) ns n ∙ ap (putIf n (stationsInto (putIf a x k) (suc k) ns)) (suc-add k (length ns) ∙ sym (add-suc k (length ns)))
 
--- and all within a width
+-- the set is below a width that has a place for every node
 pub stations-within : (W x k : ℕ) (ns : List Bool) → k + length ns ≤ W → x < 2 ^ W → stationsInto x k ns < 2 ^ W
 unfolding stationsInto
 stations-within W x k [] l h = h

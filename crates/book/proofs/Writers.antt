@@ -60,7 +60,8 @@ module _ (m : RouteBook) where
 
     pub row-here : (k : ℕ) → k < length (m .lightpaths) → take (getD (bookOf m .len) k 0) (drop (16 * k) (bookOf m .route)) ≡ path k .route .spans
     row-here k l =
-        rw (len-here k l, ← route-here k l) (row-held 2432 16 k (routesOf (m .lightpaths) (m .alternatives)) (routes-short m fits) (omega (arith, counts m fits)))
+        rw (len-here k l, ← route-here k l)
+        (row-held 2432 16 k (routesOf (m .lightpaths) (m .alternatives)) (routes-short m fits) (omega (arith, counts m fits)))
 
     record-here : (k : ℕ) → k < length (m .lightpaths) → (r : List ℕ) → r ≡ take (getD (bookOf m .len) k 0) (drop (16 * k) (bookOf m .route))
         → recordIn (bookOf m) k r ≡ lpBytes (path k)

@@ -20,7 +20,7 @@ use Rattle.book.proofs.Readers.{Bytes}
 use Rattle.book.proofs.Format.{reading-only}
 use Rattle.book.proofs.Numbering.{digits-valid}
 use Rattle.book.proofs.Gathered.{movables-of}
-use Rattle.book.proofs.Chosen.{sizes-above, length-rerouted, chosen-fits}
+use Rattle.book.proofs.Chosen.{sizes-above, length-rerouted, choice-fits}
 use Rattle.book.proofs.Choices.{sizes-in}
 use Rattle.book.proofs.Placed.{chosen-in}
 
@@ -43,7 +43,7 @@ pub rewriting : {s : List ℕ} {b : Book} (m : RouteBook) → ReadAs s b m → (
 rewriting m h n = record {
   read = h;
   new-is = chosen-is m (h .held) (h .fits) n;
-  new-fits = chosen-fits m (digits (sizes m) n) (h .fits) (digits-valid (sizes m) n (sizes-above m));
+  new-fits = choice-fits m n (h .fits);
   as-many = length-rerouted (routeBy m (digits (sizes m) n)) 0 (m .lightpaths);
 }
 

@@ -20,4 +20,5 @@ pub mod Found
 pub mod Arrays
 pub mod Apart
 pub mod Opened
+pub mod Demand
 pub mod Cards

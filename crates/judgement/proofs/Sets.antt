@@ -8,7 +8,7 @@ use lib.Arith.{lt-one}
 use lib.Count.{trailingZeros, under, ones, ones-step}
 use Rattle.book.specs.Bits.{bit}
 use Rattle.book.proofs.Bits.{bit-lt, bit-zero, bit-suc, bit-ext}
-use Rattle.judgement.specs.Network.{size}
+use Rattle.judgement.specs.Inside.{size}
 
 -- the lowest number in a set
 pub low-in : (k x : ℕ) → trailingZeros k x < k → bit x (trailingZeros k x) ≡ 1

@@ -13,7 +13,7 @@ use Rattle.judgement.specs.declared.Verdict.{Verdict}
 use Rattle.judgement.specs.declared.Verdict.the-variants.{Over, Split, Cut, Okay}
 use Rattle.judgement.specs.Judgement.{load, limit, without, allUp, side, whole, cutOrOkay, splitOr, verdict, isOkay, acceptable}
 use Rattle.judgement.specs.Cuts.{AllJoined, Survives, CutForm}
-use Rattle.judgement.specs.Meaning.{Least, IsOver, NoneOver, IsCut, Judged, over, split, cut, okay}
+use Rattle.judgement.specs.Meaning.{Least, IsOver, NoneOver, IsCut, Given, over, split, cut, okay}
 use Rattle.judgement.proofs.First.{First, there, nowhere, first, first-only}
 use Rattle.judgement.proofs.Whole.{whole-joined}
 use Rattle.judgement.proofs.Cuts.{same-forms}
@@ -70,10 +70,10 @@ module _ (m : RouteBook) (good : wellFormed m ≡ true) where
       go true e = refl
       go false e = absurd (nn (not-joined e))
 
-  judged-cut : NoneOver m → AllJoined m allUp → Judged m (cutOrOkay m)
+  judged-cut : NoneOver m → AllJoined m allUp → Given m (cutOrOkay m)
   judged-cut none all = go (first (cutTest m) (cutAt m) Okay (length (m .spans)) 0)
     where
-      go : {v : Verdict} → First (cutTest m) (cutAt m) Okay (length (m .spans)) 0 v → Judged m v
+      go : {v : Verdict} → First (cutTest m) (cutAt m) Okay (length (m .spans)) 0 v → Given m v
       go (there x a b h low) = cut x none all (record {
         below = omega arith;
         holds = not-joined (not-true _ h);
@@ -81,18 +81,18 @@ module _ (m : RouteBook) (good : wellFormed m ≡ true) where
       })
       go (nowhere h) = okay none (record { intact = all; each = λ x l. joined (not-false _ (h x zero-le (omega arith))) })
 
-  judged-split : NoneOver m → Judged m (splitOr m)
+  judged-split : NoneOver m → Given m (splitOr m)
   judged-split none = go (whole m allUp) refl
     where
-      go : (t : Bool) → whole m allUp ≡ t → Judged m (cond t (cutOrOkay m) (Split (side m allUp)))
+      go : (t : Bool) → whole m allUp ≡ t → Given m (cond t (cutOrOkay m) (Split (side m allUp)))
       go true e = judged-cut none (joined e)
       go false e = split none (not-joined e)
 
   -- THE LAW: the verdict means what its kind and numbers say
-  pub judged : Judged m (verdict m)
+  pub judged : Given m (verdict m)
   judged = go (over-first m)
     where
-      go : {v : Verdict} → First (overTest m) (overAt m) (splitOr m) (length (m .spans)) 0 v → Judged m v
+      go : {v : Verdict} → First (overTest m) (overAt m) (splitOr m) (length (m .spans)) 0 v → Given m v
       go (there x a b h low) = over x (record {
         below = omega arith;
         holds = ltb-true (limit m x) (load m x) h;
@@ -104,7 +104,7 @@ module _ (m : RouteBook) (good : wellFormed m ≡ true) where
   all-joined all = ap (λ (t : Bool). cond t (cutOrOkay m) (Split (side m allUp))) (sym (whole-joined m good allUp .1 all))
 
   -- and no other verdict means that
-  pub judged-only : {v : Verdict} → Judged m v → v ≡ verdict m
+  pub judged-only : {v : Verdict} → Given m v → v ≡ verdict m
   judged-only (over x o) =
       first-only (overTest m) (overAt m) (splitOr m) (length (m .spans)) 0
       (there x zero-le (omega (arith, o .below)) (lt-ltb (limit m x) (load m x) (o .holds)) (λ y a l. le-ltb (limit m y) (load m y) (omega (arith, o .before y l))))
@@ -117,32 +117,32 @@ module _ (m : RouteBook) (good : wellFormed m ≡ true) where
       first-only (cutTest m) (cutAt m) Okay (length (m .spans)) 0 (nowhere (λ x a l. ap not (whole-joined m good (without m x) .1 (s .each x (omega arith)))))
       ∙ all-joined (s .intact) ∙ none-over m none
 
-  pub judged-once : {v v′ : Verdict} → Judged m v → Judged m v′ → v ≡ v′
+  pub judged-once : {v v′ : Verdict} → Given m v → Given m v′ → v ≡ v′
   judged-once j j′ = judged-only j ∙ sym (judged-only j′)
 
   -- each kind by itself, with its numbers
   pub over-exact : (x l w : ℕ) → (verdict m ≡ Over x l w) ↔ (Least (IsOver m) (length (m .spans)) x × (l ≡ load m x) × (w ≡ limit m x))
-  over-exact x l w = ((λ e. go (subst (Judged m) e judged)), (λ p. sym (judged-only (over x (p .0))) ∙ rw (p .1, p .2)))
+  over-exact x l w = ((λ e. go (subst (Given m) e judged)), (λ p. sym (judged-only (over x (p .0))) ∙ rw (p .1, p .2)))
     where
-      go : {x l w : ℕ} → Judged m (Over x l w) → Least (IsOver m) (length (m .spans)) x × (l ≡ load m x) × (w ≡ limit m x)
+      go : {x l w : ℕ} → Given m (Over x l w) → Least (IsOver m) (length (m .spans)) x × (l ≡ load m x) × (w ≡ limit m x)
       go (over x o) = (o, refl, refl)
 
   pub split-exact : (d : ℕ) → (verdict m ≡ Split d) ↔ (NoneOver m × (AllJoined m allUp → ⊥) × (d ≡ side m allUp))
-  split-exact d = ((λ e. go (subst (Judged m) e judged)), (λ p. sym (judged-only (split (p .0) (p .1))) ∙ rw (p .2)))
+  split-exact d = ((λ e. go (subst (Given m) e judged)), (λ p. sym (judged-only (split (p .0) (p .1))) ∙ rw (p .2)))
     where
-      go : {d : ℕ} → Judged m (Split d) → NoneOver m × (AllJoined m allUp → ⊥) × (d ≡ side m allUp)
+      go : {d : ℕ} → Given m (Split d) → NoneOver m × (AllJoined m allUp → ⊥) × (d ≡ side m allUp)
       go (split none ne) = (none, ne, refl)
 
   pub cut-exact : (x d : ℕ) → (verdict m ≡ Cut x d) ↔ (NoneOver m × AllJoined m allUp × Least (IsCut m) (length (m .spans)) x × (d ≡ side m (without m x)))
-  cut-exact x d = ((λ e. go (subst (Judged m) e judged)), (λ p. sym (judged-only (cut x (p .0) (p .1) (p .2))) ∙ rw (p .3)))
+  cut-exact x d = ((λ e. go (subst (Given m) e judged)), (λ p. sym (judged-only (cut x (p .0) (p .1) (p .2))) ∙ rw (p .3)))
     where
-      go : {x d : ℕ} → Judged m (Cut x d) → NoneOver m × AllJoined m allUp × Least (IsCut m) (length (m .spans)) x × (d ≡ side m (without m x))
+      go : {x d : ℕ} → Given m (Cut x d) → NoneOver m × AllJoined m allUp × Least (IsCut m) (length (m .spans)) x × (d ≡ side m (without m x))
       go (cut x none all c) = (none, all, c, refl)
 
   pub okay-exact : (verdict m ≡ Okay) ↔ (NoneOver m × Survives m)
-  okay-exact = ((λ e. go (subst (Judged m) e judged)), (λ p. sym (judged-only (okay (p .0) (p .1)))))
+  okay-exact = ((λ e. go (subst (Given m) e judged)), (λ p. sym (judged-only (okay (p .0) (p .1)))))
     where
-      go : Judged m Okay → NoneOver m × Survives m
+      go : Given m Okay → NoneOver m × Survives m
       go (okay none s) = (none, s)
 
   -- DEMAND 2, in both forms

@@ -11,9 +11,10 @@ use Rattle.book.specs.Book.{RouteBook, wellFormed}
 use Rattle.book.specs.Bits.{has}
 use Rattle.book.proofs.Bits.{bit-iff, bit-ext, has-true, true-has}
 use Rattle.book.proofs.Bounds.{stations-lt, ends-stations, ends-lt}
-use Rattle.judgement.specs.Network.{Joined, start, more, sideOf, size}
+use Rattle.judgement.specs.Network.{Joined, start, more, sideOf}
 use Rattle.judgement.specs.Judgement.{network, stations, lowest, side, whole}
 use Rattle.judgement.specs.Cuts.{AllJoined}
+use Rattle.judgement.specs.Inside.{size}
 use Rattle.judgement.proofs.Sets.{size-same}
 use Rattle.judgement.proofs.Joins.{side-joined, side-grown}
 use Rattle.judgement.proofs.Stations.{lowest-lt, lowest-has}

@@ -14,7 +14,7 @@ module _ (m : RouteBook) where
   abbrev pub AllJoined : (ℕ → Bool) → Type 0
   AllJoined up = (i : ℕ) → has (stations m) i ≡ true → Joined (network m) up (lowest m) i
 
-  -- the joined form: the stations are joined when all is up, and with any one span out
+  -- J26: the joined form: the stations are joined when all is up, and with any one span out
   pub record Survives : Type 0 where
     pub intact : AllJoined allUp
     pub each : (x : ℕ) → x < length (m .spans) → AllJoined (without m x)

@@ -4,7 +4,7 @@ use mathlib.Core.Path.{_≡_}
 use mathlib.Core.List.{List}
 use mathlib.Core.Bool.{Bool, false, not, _&&_}
 use lib.ListN.{length, getD, set, replicate}
-use Rattle.book.specs.Bits.{has}
+use Rattle.book.specs.Bits.{bit, has}
 use lib.Dec.{eqb}
 use Rattle.book.specs.declared.Book.{Book}
 use Rattle.judgement.specs.declared.kind.Parted.{Parted}
@@ -60,3 +60,8 @@ apartOn n from to words i = sum (λ k. one (apartAt n from to words i k)) n
 
 abbrev pub apartIn : ℕ → List ℕ → List ℕ → List ℕ → ℕ → ℕ
 apartIn n from to words count = sum (λ i. apartOn n from to words i) count
+
+-- how many of the numbers below k are in the set x
+unfoldable pub size : ℕ → ℕ → ℕ
+size zero x = 0
+size (suc k) x = size k x + bit x k

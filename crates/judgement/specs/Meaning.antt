@@ -14,21 +14,21 @@ pub record Least (P : ℕ → Type 0) (n x : ℕ) : Type 0 where
   pub before : (y : ℕ) → y < x → P y → ⊥
 
 module _ (m : RouteBook) where
-  -- a span is over where its load exceeds its limit
+  -- J11: a span is over where its load exceeds its limit
   abbrev pub IsOver : ℕ → Type 0
   IsOver x = limit m x < load m x
 
-  -- no span is over
+  -- J11: no span is over
   abbrev pub NoneOver : Type 0
   NoneOver = (x : ℕ) → x < length (m .spans) → load m x ≤ limit m x
 
-  -- a span is cut where without its lightpaths some station is not joined
+  -- J13: a span is cut where without its lightpaths some station is not joined
   abbrev pub IsCut : ℕ → Type 0
   IsCut x = AllJoined m (without m x) → ⊥
 
   -- J11 to J14: the four kinds, each with its own numbers
-  pub data Judged : Verdict → Type 0 where
-    over : (x : ℕ) → Least IsOver (length (m .spans)) x → Judged (Over x (load m x) (limit m x))
-    split : NoneOver → (AllJoined m allUp → ⊥) → Judged (Split (side m allUp))
-    cut : (x : ℕ) → NoneOver → AllJoined m allUp → Least IsCut (length (m .spans)) x → Judged (Cut x (side m (without m x)))
-    okay : NoneOver → Survives m → Judged Okay
+  pub data Given : Verdict → Type 0 where
+    over : (x : ℕ) → Least IsOver (length (m .spans)) x → Given (Over x (load m x) (limit m x))
+    split : NoneOver → (AllJoined m allUp → ⊥) → Given (Split (side m allUp))
+    cut : (x : ℕ) → NoneOver → AllJoined m allUp → Least IsCut (length (m .spans)) x → Given (Cut x (side m (without m x)))
+    okay : NoneOver → Survives m → Given Okay

@@ -1,10 +1,10 @@
 -- Lightpaths that are up join their ends: docs/JUDGEMENT.md, section 2. Joining speaks of which lightpaths are up, and of nothing else.
-use Prim.Native.Nat.{ℕ, zero, suc, _+_, _^_, _<_}
+use Prim.Native.Nat.{ℕ, zero, suc, _^_, _<_}
 use mathlib.Core.Path.{_≡_}
 use mathlib.Core.Logic.{_⊎_}
 use mathlib.Core.Bool.{Bool, true, cond, _&&_, _||_}
 use lib.Dec.{eqb}
-use Rattle.book.specs.Bits.{bit, has, put}
+use Rattle.book.specs.Bits.{has, put}
 
 -- J4: lightpaths 0 to count - 1, with the ends of each
 pub record Network : Type 0 where
@@ -49,8 +49,3 @@ module _ (net : Network) (up : ℕ → Bool) where
   -- the side of s among W nodes: each sweep that adds makes the number greater, so that 2 ^ W are enough
   unfoldable pub sideOf : ℕ → ℕ → ℕ
   sideOf W s = settled (2 ^ W) (2 ^ s)
-
--- how many of the numbers below k are in the set x
-unfoldable pub size : ℕ → ℕ → ℕ
-size zero x = 0
-size (suc k) x = size k x + bit x k

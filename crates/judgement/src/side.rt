@@ -5,8 +5,8 @@ ghost use Prim.Native.Nat.{_≤_, _<_, min};
 ghost use lib.ListN.{length};
 ghost use lib.Count.{trailingZeros};
 ghost use Rattle.book.specs.Bits.{has, put};
-ghost use Rattle.judgement.specs.Network.{brought, swept, sideOf, size};
-ghost use Rattle.judgement.specs.Inside.{netOf, upOf, Fits, upTable, unset};
+ghost use Rattle.judgement.specs.Network.{brought, swept, sideOf};
+ghost use Rattle.judgement.specs.Inside.{netOf, upOf, Fits, upTable, unset, size};
 
 // A set of numbers below 64, those of the nodes; the same word serves for the spans of a route.
 pub(crate) struct Side {
