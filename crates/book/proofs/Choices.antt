@@ -8,10 +8,11 @@ use native.Mathlib.Nat.{mul-le-mul, pow-succ', mod-self, mod-eq-of-lt}
 use native.Mathlib.Omega.{arith}
 use lib.ListN.{length, getD, length-map}
 use Rattle.book.specs.Book.{RouteBook, count, wellFormed}
-use Rattle.book.specs.Choice.{owners, movable, alternativesEach, sizes, valid, product, choices, number, digits, stepped}
+use Rattle.book.specs.Choice.{owners, movable, alternativesEach, sizes, valid, product, choices, number, digits, stepped, chosenBy}
 use Rattle.book.specs.Moving.{movablesOf, capped, sizesIn}
+use Rattle.book.specs.declared.choice.Movables.{Movables}
 use Rattle.book.proofs.Padded.{padded-long, padded-at}
-use Rattle.book.proofs.Numbering.{product-pos, number-of, number-below, digits-valid, digits-of, step-number}
+use Rattle.book.proofs.Numbering.{Sizes, product-pos, number-of, number-below, digits-valid, digits-of, step-digits, step-number}
 use Rattle.book.proofs.Gathered.{seven-most, eight-most}
 use Rattle.book.proofs.Chosen.{sizes-above}
 
@@ -70,3 +71,20 @@ module _ (m : RouteBook) where
   last-choice ds v e =
       let s = step-number (sizes m) ds (sizes-above m) v in
       sym (digits-of (sizes m) (stepped (sizes m) ds) (s .0)) ∙ ap (digits (sizes m)) (s .1 ∙ ap (λ (n : ℕ). n % choices m) e ∙ mod-self (choices m))
+
+-- the digits of any struct: stepping those of n gives those of n + 1
+capped-above : (ws : List ℕ) → Sizes (capped ws)
+unfolding Sizes
+capped-above [] = tt
+capped-above (w ∷ ws) = (omega arith, capped-above ws)
+
+pub next-in : (w : Movables) (n : ℕ) → stepped (sizesIn w) (digits (sizesIn w) n) ≡ digits (sizesIn w) (n + 1)
+next-in w n = step-digits (sizesIn w) n (capped-above (w .more))
+
+-- sizes and chosen routes come of the lightpaths and the alternatives alone
+module _ (m m′ : RouteBook) (lightpaths : m .lightpaths ≡ m′ .lightpaths) (alternatives : m .alternatives ≡ m′ .alternatives) where
+  pub sizes-kept : sizes m ≡ sizes m′
+  sizes-kept = rw (lightpaths, alternatives)
+
+  pub routes-kept : (ds : List ℕ) → chosenBy m ds .lightpaths ≡ chosenBy m′ ds .lightpaths
+  routes-kept ds = rw (lightpaths, alternatives)

@@ -9,6 +9,7 @@ use lib.ListN.{length, length-map, List·getD-map}
 use Rattle.book.specs.Book.{Ends, RouteBook, endsOf, endsAt}
 use Rattle.book.specs.Choice.{routeBy, lightpathAt, chosenBy}
 use Rattle.book.proofs.Chosen.{ends-rerouted}
+use Rattle.book.proofs.Choices.{routes-kept}
 use Rattle.judgement.specs.Judgement.{load, limit, network, allUp, lowest, side, whole, splitOr, isOkay, acceptable}
 use Rattle.judgement.specs.Meaning.{NoneOver}
 use Rattle.judgement.proofs.Alike.{Alike, side-alike}
@@ -64,3 +65,7 @@ module _ (m m′ : RouteBook) (r : Raised m m′) where
   -- THE LAW
   pub raised : acceptable m ≡ true → acceptable m′ ≡ true
   raised e = let p = okay-after m e in ap isOkay (sym (none-over m′ (within (p .0))) ∙ sym after-same) ∙ p .1
+
+-- and with the alternatives kept, the book that a choice makes has its limits raised
+pub raised-chosen : (m m′ : RouteBook) → Raised m m′ → m .alternatives ≡ m′ .alternatives → (ds : List ℕ) → Raised (chosenBy m ds) (chosenBy m′ ds)
+raised-chosen m m′ r same ds = record { nodes = r .nodes; lightpaths = routes-kept m m′ (r .lightpaths) same ds; count = r .count; limits = r .limits }

@@ -1,0 +1,21 @@
+-- What is found among the choices of a book, given the trial limit: docs/SEARCH.md, section 1.
+use Prim.Native.Nat.{ℕ, min}
+use mathlib.Core.Bool.{Bool, cond}
+use lib.Dec.{leb}
+use Rattle.book.specs.Book.{RouteBook}
+use Rattle.book.specs.Choice.{choices, chosen}
+use Rattle.judgement.specs.Judgement.{acceptable, firstOf}
+use Rattle.search.specs.declared.Finding.{Finding}
+use Rattle.search.specs.declared.Finding.the-variants.{Found, None, More}
+
+-- S2: whether the choice with number n is acceptable
+abbrev pub acceptableAt : RouteBook → ℕ → Bool
+acceptableAt m n = acceptable (chosen m n)
+
+-- S4, S5: where no choice that was tried is acceptable: NONE if the limit let all be tried, else MORE
+abbrev pub unfound : RouteBook → ℕ → Finding
+unfound m limit = cond (leb (choices m) limit) (None (choices m)) (More limit (choices m))
+
+-- S3: FOUND with the first acceptable choice below both the limit and the number of choices
+abbrev pub finding : RouteBook → ℕ → Finding
+finding m limit = firstOf (acceptableAt m) (λ n. Found n (choices m)) (unfound m limit) (min limit (choices m)) 0
