@@ -18,6 +18,13 @@ use Rattle.judgement.proofs.First.{First, there, nowhere, first, first-
 use Rattle.judgement.proofs.Whole.{whole-joined}
 use Rattle.judgement.proofs.Cuts.{same-forms}
 
+-- acceptable is OK
+pub okay-only : (v : Verdict) → isOkay v ≡ true → v ≡ Okay
+okay-only (Over x l w) e = absurd (false≢true e)
+okay-only (Split d) e = absurd (false≢true e)
+okay-only (Cut x d) e = absurd (false≢true e)
+okay-only Okay e = refl
+
 module _ (m : RouteBook) where
   -- the two searches: their tests, and their answers
   abbrev overTest : ℕ → Bool
@@ -147,13 +154,7 @@ module _ (m : RouteBook) (good : wellFormed m ≡ true) where
 
   -- DEMAND 2, in both forms
   pub acceptable-joined : (acceptable m ≡ true) ↔ (NoneOver m × Survives m)
-  acceptable-joined = ((λ e. okay-exact .0 (only (verdict m) e)), (λ p. ap isOkay (okay-exact .1 p)))
-    where
-      only : (v : Verdict) → isOkay v ≡ true → v ≡ Okay
-      only (Over x l w) e = absurd (false≢true e)
-      only (Split d) e = absurd (false≢true e)
-      only (Cut x d) e = absurd (false≢true e)
-      only Okay e = refl
+  acceptable-joined = ((λ e. okay-exact .0 (okay-only (verdict m) e)), (λ p. ap isOkay (okay-exact .1 p)))
 
   pub acceptable-cuts : (acceptable m ≡ true) ↔ (NoneOver m × CutForm m)
   acceptable-cuts = Iff·trans acceptable-joined (Iff·and Iff·rfl (same-forms m good))

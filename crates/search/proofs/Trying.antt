@@ -1,7 +1,7 @@
 -- THE LOOP OF THE SEARCH: after n trials the choice at hand has the number n, and the first acceptable choice of all is the first of those left.
 -- Stepping the digits of n gives those of n + 1, so no choice is made from its number but the first.
 use Prim.Native.Nat.{ℕ, _+_, _≤_, _<_, min}
-use mathlib.Core.Path.{_≡_, sym, ap, ap₂, _∙_}
+use mathlib.Core.Path.{_≡_, sym, ap, _∙_}
 use mathlib.Core.Bool.{Bool, true, false, cond}
 use native.Mathlib.Omega.{arith}
 use borrow.Author.Tests.{le-leb, lt-leb}
@@ -18,7 +18,6 @@ use Rattle.book.proofs.Written.{total-is, chosen-is}
 use Rattle.judgement.specs.Judgement.{isOkay}
 use Rattle.judgement.proofs.Arrays.{verdict-in}
 use Rattle.judgement.proofs.First.{Looking, looking-start, looking-next, looking-hit, looking-end}
-use Rattle.search.specs.declared.Finding.{Finding}
 use Rattle.search.specs.declared.Finding.the-variants.{Found, None, More}
 use Rattle.search.specs.Search.{acceptableAt, unfound, finding}
 use Rattle.search.specs.Inside.{acceptableIn}
@@ -39,7 +38,7 @@ trying-start b limit w c e = record { at = e; left = λ m held fits. looking-sta
 
 module _ {b : Book} {limit : ℕ} {w : Movables} {total end : ℕ} (r : Ready b limit w total end) where
   module _ (m : RouteBook) (held : b ≡ bookOf m) (fits : wellFormed m ≡ true) where
-    pub total-of : total ≡ choices m
+    total-of : total ≡ choices m
     total-of = r .all ∙ ap (λ (v : Movables). product (sizesIn v)) (r .movables) ∙ total-is m held fits
 
     end-of : end ≡ min limit (choices m)
@@ -65,7 +64,7 @@ module _ {b : Book} {limit : ℕ} {w : Movables} {total end : ℕ} (r : Ready b 
           ap (Found n) (total-of m held fits)
           ∙ sym (looking-hit (acceptableAt m) (λ k. Found k (choices m)) (unfound m limit) (now .left m held fits) (omega (arith, end-of m held fits)) (sym (tried m held fits n (now .at)) ∙ e))
 
-      pub trying-out : end ≤ n → unfound m limit ≡ finding m limit
+      trying-out : end ≤ n → unfound m limit ≡ finding m limit
       trying-out l = sym (looking-end (acceptableAt m) (λ k. Found k (choices m)) (unfound m limit) (now .left m held fits) (omega (arith, end-of m held fits)))
 
       pub trying-none : end ≤ n → total ≤ limit → None total ≡ finding m limit
