@@ -1,0 +1,95 @@
+// What the programs print, as bytes: the lines of the report, worked out from the answers of the libraries below. docs/REPORT.md says what each is.
+mod lines;
+pub mod text;
+
+use book::Answer;
+use book::Book;
+use judgement::Judged;
+use judgement::Scored;
+use search::Finding;
+use search::Searched;
+use text::Text;
+ghost use mathlib.Core.Path.{_≡_};
+ghost use mathlib.Core.List.{_++_};
+ghost use Rattle.book.specs.Book.{RouteBook};
+ghost use Rattle.book.specs.Format.{reading};
+ghost use Rattle.book.specs.Writing.{chosenOf};
+ghost use Rattle.judgement.specs.Answers.{judgedOf, scoredOf};
+ghost use Rattle.search.specs.Answers.{searchedOf};
+ghost use Rattle.listing.specs.Text.{textOf};
+ghost use Rattle.listing.specs.Report.{findingLine, movesOf, reportOf};
+ghost use Rattle.listing.specs.Inside.{Adds, Holds, judgedLine, scoredLine, searchedLines, goodLines};
+
+// The verdict on choice 0.
+fn judged_line(t: Text, s: &[u8]) -> Text
+    ensures { λ r. ⌜ Adds t (judgedLine (judgedOf (chosenOf (reading (now (s .entry))) 0))) r ⌝ }
+{
+    let answer = judgement::judge(s, 0);
+    match answer {
+        Judged::Told(v) => lines::verdict_line(t, v),
+        Judged::Refused(no, place) => lines::bad_line(t, no, place),
+    }
+}
+
+// The score of choice 0.
+fn scored_line(t: Text, s: &[u8]) -> Text
+    ensures { λ r. ⌜ Adds t (scoredLine (scoredOf (chosenOf (reading (now (s .entry))) 0))) r ⌝ }
+{
+    let answer = judgement::score(s, 0);
+    match answer {
+        Scored::Told(f, c) => lines::score_line(t, f, c),
+        Scored::Refused(no, place) => lines::bad_line(t, no, place),
+    }
+}
+
+// What was found in the book b, and the moves where that is a choice.
+fn finding_lines(t: Text, b: Book, f: Finding) -> Text
+    ensures { λ r. ⌜ ((m : RouteBook) → Holds b m → Adds t (findingLine f ++ movesOf m f) r) ⌝ }
+{
+    let first = lines::finding_line(t, f);
+    match f {
+        Finding::Found(n, total) => lines::move_lines(first, b, n),
+        Finding::None(total) => first,
+        Finding::More(limit, total) => first,
+    }
+}
+
+// What a search of the book b, whose bytes are s, answers.
+fn searched_lines(t: Text, s: &[u8], b: Book, limit: u32) -> Text
+    ensures { λ r. ⌜ ((m : RouteBook) → Holds b m → Adds t (searchedLines m (searchedOf (reading (now (s .entry))) limit)) r) ⌝ }
+{
+    let answer = search::search(s, limit);
+    match answer {
+        Searched::Told(f) => finding_lines(t, b, f),
+        Searched::Refused(no, place) => lines::bad_line(t, no, place),
+    }
+}
+
+// The report on the book b, whose bytes are s.
+fn good_report(s: &[u8], b: Book) -> Text
+    ensures { λ r. ⌜ ((m : RouteBook) → Holds b m → r ≡ textOf (goodLines m (now (s .entry)))) ⌝ }
+{
+    let none = Text::none();
+    let first = lines::book_line(none, b);
+    let second = judged_line(first, s);
+    let third = scored_line(second, s);
+    let fourth = searched_lines(third, s, b, 65536);
+    lines::end_line(fourth)
+}
+
+// The report on a book: what it has, the verdict and the score of choice 0, and what the search finds within 65,536 trials; or its refusal.
+pub fn report(s: &[u8]) -> Text
+    ensures { λ r. ⌜ r ≡ textOf (reportOf (reading (now (s .entry)))) ⌝ }
+{
+    let reply = book::read(s);
+    let answer = reply.answer;
+    let b = reply.book;
+    match answer {
+        Answer::Good => good_report(s, b),
+        Answer::Refused(no, place) => {
+            let none = Text::none();
+            let first = lines::bad_line(none, no, place);
+            lines::end_line(first)
+        }
+    }
+}
