@@ -89,9 +89,14 @@ report-short (good m) =
       arith,
       behind-short wordBOOK (length (m .nodes) ∷ length (m .spans) ∷ length (m .lightpaths) ∷ length (m .alternatives) ∷ []) (10 ∷ []),
       behind-short wordSCORE (scoreF c ∷ scoreFc c ∷ []) (10 ∷ []),
-      verdict-short (verdict c), finding-short f, moved-short m f,
-      length-append (bookLine m) (verdictLine (verdict c) ++ scored), length-append (verdictLine (verdict c)) scored,
-      length-append (scoreLine (scoreF c) (scoreFc c)) found, length-append (findingLine f ++ movesOf m f) z, length-append (findingLine f) (movesOf m f),
+      verdict-short (verdict c),
+      finding-short f,
+      moved-short m f,
+      length-append (bookLine m) (verdictLine (verdict c) ++ scored),
+      length-append (verdictLine (verdict c)) scored,
+      length-append (scoreLine (scoreF c) (scoreFc c)) found,
+      length-append (findingLine f ++ movesOf m f) z,
+      length-append (findingLine f) (movesOf m f),
     )
 report-short (refused k p) = omega (arith, length-append (line wordBAD (k ∷ p ∷ [])) (line wordEND []), behind-short wordBAD (k ∷ p ∷ []) (10 ∷ []))
 

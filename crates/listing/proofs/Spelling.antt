@@ -65,9 +65,9 @@ module _ (self : Text) (n base k : ℕ) (two : 1 < base) where
               let z : k - i ≡ suc (k - suc i) = omega (arith, now .few) in
               let d : n / base ^ i / base ≡ n / base ^ suc i = div-div-eq-div-mul n (base ^ i) base ∙ ap (λ (x : ℕ). n / x) (mul-comm (base ^ i) base ∙ sym (pow-succ' base i)) in
               adds-as (
-                ap₂ (λ (j x : ℕ). spelled base (k - j) (n / base ^ j) ++ glyph (n / x % base) ∷ []) e p
-                ∙ ap (λ (x : ℕ). spelled base (k - suc i) x ++ glyph (n / base ^ i % base) ∷ []) (sym d)
-                ∙ sym (ap (λ (j : ℕ). spelled base j (n / base ^ i)) z)
+              ap₂ (λ (j x : ℕ). spelled base (k - j) (n / base ^ j) ++ glyph (n / x % base) ∷ []) e p
+              ∙ ap (λ (x : ℕ). spelled base (k - suc i) x ++ glyph (n / base ^ i % base) ∷ []) (sym d)
+              ∙ sym (ap (λ (j : ℕ). spelled base j (n / base ^ i)) z)
               ) (adds-then (now .adds) add);
         }
 

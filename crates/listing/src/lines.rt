@@ -20,7 +20,9 @@ pub(crate) fn book_line(t: Text, b: Book) -> Text
 {
     let w = t.word(b"BOOK");
     let x = w.number(b.nodes as u64).number(b.spans as u64);
-    x.number(b.lightpaths as u64).number(b.alternatives as u64).end()
+    x.number(b.lightpaths as u64)
+        .number(b.alternatives as u64)
+        .end()
 }
 
 // The verdict, with its numbers.
@@ -28,7 +30,11 @@ pub(crate) fn verdict_line(t: Text, v: Verdict) -> Text
     ensures { λ r. ⌜ Adds t (verdictLine v) r ⌝ }
 {
     match v {
-        Verdict::Over(x, l, w) => t.word(b"OVER").number(x as u64).number(l as u64).number(w as u64).end(),
+        Verdict::Over(x, l, w) => t.word(b"OVER")
+            .number(x as u64)
+            .number(l as u64)
+            .number(w as u64)
+            .end(),
         Verdict::Split(d) => t.word(b"SPLIT").side(d).end(),
         Verdict::Cut(x, d) => t.word(b"CUT").number(x as u64).side(d).end(),
         Verdict::Okay => t.word(b"OK").end(),
@@ -49,7 +55,10 @@ pub(crate) fn finding_line(t: Text, f: Finding) -> Text
     match f {
         Finding::Found(n, total) => t.word(b"FOUND").number(n as u64).number(total as u64).end(),
         Finding::None(total) => t.word(b"NONE").number(total as u64).end(),
-        Finding::More(limit, total) => t.word(b"MORE").number(limit as u64).number(total as u64).end(),
+        Finding::More(limit, total) => t.word(b"MORE")
+            .number(limit as u64)
+            .number(total as u64)
+            .end(),
     }
 }
 

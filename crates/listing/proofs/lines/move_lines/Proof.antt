@@ -53,11 +53,11 @@ returns c = λ m e fits.
     let a = c .before .before .before .before .before .before .args in
     let full : c .before .loop .i ≡ 8 = omega (arith, c .before .loop .inv .0, c .loop-test .left) in
     adds-as (
-      ap (moveLines (w .lightpath) (c .before .before .before .before .of2 .result .digits)) full
-      ∙ ap (λ (x : Choice). moveLines (w .lightpath) (x .digits) 8) (c .before .before .before .before .of2 .ensures)
-      ∙ ap (λ (x : Movables). moveLines (x .lightpath) (choiceIn x (a .n) .digits) 8) (c .before .before .before .before .before .of .ensures)
-      ∙ ap (λ (x : Book). moveLines (movablesIn x .lightpath) (choiceIn (movablesIn x) (a .n) .digits) 8) e
-      ∙ moves-held m fits (a .n)
+    ap (moveLines (w .lightpath) (c .before .before .before .before .of2 .result .digits)) full
+    ∙ ap (λ (x : Choice). moveLines (w .lightpath) (x .digits) 8) (c .before .before .before .before .of2 .ensures)
+    ∙ ap (λ (x : Movables). moveLines (x .lightpath) (choiceIn x (a .n) .digits) 8) (c .before .before .before .before .before .of .ensures)
+    ∙ ap (λ (x : Book). moveLines (movablesIn x .lightpath) (choiceIn (movablesIn x) (a .n) .digits) 8) e
+    ∙ moves-held m fits (a .n)
     ) (c .before .loop .inv .1)
 
 pub move-lines-spec : {M : Type 1} → statement M
