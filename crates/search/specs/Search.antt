@@ -16,6 +16,6 @@ acceptableAt m n = acceptable (chosen m n)
 abbrev pub unfound : RouteBook → ℕ → Finding
 unfound m limit = cond (leb (choices m) limit) (None (choices m)) (More limit (choices m))
 
--- S3: FOUND with the first acceptable choice below both the limit and the number of choices
+-- S1, S3: FOUND with the first acceptable choice below both the limit and the number of choices
 abbrev pub finding : RouteBook → ℕ → Finding
 finding m limit = firstOf (acceptableAt m) (λ n. Found n (choices m)) (unfound m limit) (min limit (choices m)) 0
