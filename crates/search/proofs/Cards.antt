@@ -39,6 +39,7 @@ unfolding reading book each opened below some count different walks lengthFits s
 P7 = refl
 
 -- limits at the ends of the range, and a refusal, whatever the limit
-pub limits : (searchedOf (reading alone) 0 ≡ Told (More 0 1)) × (searchedOf (reading unmovable) 4294967295 ≡ Told (None 1)) × (searchedOf (reading E) 4294967295 ≡ Told (Found 1 2)) × (searchedOf (reading []) 0 ≡ Refused 1 0)
+pub limits : (searchedOf (reading alone) 0 ≡ Told (More 0 1)) × (searchedOf (reading unmovable) 4294967295 ≡ Told (None 1))
+    × (searchedOf (reading E) 4294967295 ≡ Told (Found 1 2)) × (searchedOf (reading []) 0 ≡ Refused 1 0)
 unfolding reading book each opened below some count different walks lengthFits spanEnds lightpathEnds follows bit has put stationsInto padded movableFrom product digits digitFor alternativesOf rerouted brought grown swept settled sideOf sum firstOf trailingZeros
 limits = (refl, refl, refl, refl)

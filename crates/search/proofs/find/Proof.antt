@@ -28,7 +28,8 @@ of-requires-2 c κs = search needs
 
 loop-holds : tie.Need-loop-holds Inv-loop μ-loop
 loop-holds c =
-    trying-start (record { movables = c .before .before .before .of .ensures; all = c .before .before .total .ensures; lesser = c .before .lesser .ensures }) (c .of2 .ensures)
+    let made = c .before .before .before in
+    trying-start (record { movables = made .of .ensures; all = c .before .before .total .ensures; lesser = c .before .lesser .ensures }) (c .of2 .ensures)
 
 acceptable-requires : tie.Need-acceptable-requires Inv-loop μ-loop
 acceptable-requires c κs = search needs
@@ -50,7 +51,8 @@ loop-less c = search needs
 loop-again : tie.Need-loop-again Inv-loop μ-loop
 loop-again c =
     let l = c .before .before .before in
-    rw (c .next .ensures) (trying-next (l .before .loop .inv) (omega (arith, l .loop-test .taken)) (sym (c .before .before .acceptable .ensures) ∙ c .before .if1 .left))
+    let missed = sym (c .before .before .acceptable .ensures) ∙ c .before .if1 .left in
+    rw (c .next .ensures) (trying-next (l .before .loop .inv) (omega (arith, l .loop-test .taken)) missed)
 
 returns-2 : tie.Need-returns-2 Inv-loop μ-loop
 returns-2 c m held fits =
