@@ -72,7 +72,7 @@ module _ (m : RouteBook) where
       let s = step-number (sizes m) ds (sizes-above m) v in
       sym (digits-of (sizes m) (stepped (sizes m) ds) (s .0)) ∙ ap (digits (sizes m)) (s .1 ∙ ap (λ (n : ℕ). n % choices m) e ∙ mod-self (choices m))
 
--- the digits of any struct: stepping those of n gives those of n + 1
+-- the sizes that any struct tells are above 0, so stepping the digits of n gives those of n + 1
 capped-above : (ws : List ℕ) → Sizes (capped ws)
 unfolding Sizes
 capped-above [] = tt

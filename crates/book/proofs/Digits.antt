@@ -1,6 +1,6 @@
 -- The loops over the eight digits: what is left to compute from digit i on gives, with what is computed, the whole.
 -- Every size is at most 8, so that a product of i of them is at most 8 to the power i, and no sum or product here leaves 32 bits.
-use Prim.Native.Nat.{ℕ, suc, _+_, _-_, _*_, _/_, _%_, _^_, _≤_, _<_, min}
+use Prim.Native.Nat.{ℕ, suc, _+_, _*_, _/_, _%_, _^_, _≤_, _<_, min}
 use mathlib.Core.Path.{_≡_, refl, sym, ap, ap₂, _∙_}
 use mathlib.Core.List.{List, [], _∷_, _++_, append-assoc, append-nil}
 use mathlib.Core.Bool.{Bool, cond}

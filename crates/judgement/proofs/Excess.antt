@@ -1,20 +1,17 @@
 -- LOADS AGAINST LIMITS: what the arrays say of a span is what the book says of it, for the first span over its limit and for the sum of all excess.
 -- That sum is at most 1,536: all loads together are no more than the places of all routes, and those are at most 96 routes of at most 16 places.
-use Prim.Native.Nat.{ℕ, zero, suc, _+_, _-_, _*_, _<_, _≤_, zero-le}
+use Prim.Native.Nat.{ℕ, _-_, _*_, _≤_}
 use mathlib.Core.Path.{_≡_, refl, ap, ap₂, _∙_}
-use mathlib.Core.List.{List, [], _∷_}
-use mathlib.Core.Bool.{Bool, true, false, _||_}
+use mathlib.Core.List.{List}
+use mathlib.Core.Bool.{Bool, true}
 use native.Mathlib.Nat.{le-trans, sub-le}
 use native.Mathlib.Omega.{arith}
-use native.Mathlib.Decide.{ℕ-discrete, decLt}
 use lib.ListN.{length, getD}
-use lib.Dec.{eqb, ltb}
-use borrow.Author.Tests.{eq-eqb, ne-eqb, lt-ltb, le-ltb}
+use lib.Dec.{ltb}
 use Rattle.book.specs.declared.Book.{Book}
-use Rattle.book.specs.Book.{Span, RouteBook, wellFormed, among}
+use Rattle.book.specs.Book.{Span, RouteBook, wellFormed}
 use Rattle.book.specs.Memory.{bookOf}
 use Rattle.book.specs.Choice.{lightpathAt}
-use Rattle.book.proofs.Tallies.{one-most}
 use Rattle.book.proofs.Bounds.{counts}
 use Rattle.book.proofs.Lightpaths.{column-at}
 use Rattle.judgement.specs.declared.load.Overload.{Overload}

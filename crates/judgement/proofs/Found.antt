@@ -33,7 +33,7 @@ module _ (b : Book) {start : ℕ} (z : start ≡ lowestIn b) where
   cut x = Cut x (sideBy b (upIn b x))
 
   -- with span x out the side is that of its word
-  out-of : (x : ℕ) (t : Bool) → ltb x 64 ≡ t → sideOf (netOf (b .lightpaths) (b .from) (b .to)) (cond t (unset (b .low) x) (unset (b .high) (x - 64))) 64 start ≡ sideBy b (upIn b x)
+  pub out-of : (x : ℕ) (t : Bool) → ltb x 64 ≡ t → sideOf (netOf (b .lightpaths) (b .from) (b .to)) (cond t (unset (b .low) x) (unset (b .high) (x - 64))) 64 start ≡ sideBy b (upIn b x)
   out-of x t e =
       let by : Bool → ℕ → ℕ = λ u s. sideOf (netOf (b .lightpaths) (b .from) (b .to)) (cond u (unset (b .low) x) (unset (b .high) (x - 64))) 64 s in
       ap (by t) z ∙ sym (ap (λ (u : Bool). by u (lowestIn b)) e)

@@ -1,28 +1,21 @@
 -- The sides of the code are the sides of the book that its arrays hold: the ends stand in two of them, and each lightpath's words hold a span
--- exactly if its route does. The arrays of a well-formed book are as the code relies on.
+-- exactly if its route does.
 use Prim.Native.Nat.{ℕ, _+_, _-_, _*_, _≤_, _<_}
 use mathlib.Core.Path.{_≡_, refl, ap, _∙_}
-use mathlib.Core.List.{[], map}
+use mathlib.Core.List.{[]}
 use mathlib.Core.Bool.{Bool, true, not}
 use native.Mathlib.Omega.{arith}
-use lib.ListN.{length, getD, length-append, length-map}
-use lib.Count.{trailingZeros}
+use lib.ListN.{length, getD}
 use Rattle.book.specs.declared.Book.{Book}
-use Rattle.book.specs.Book.{Lightpath, RouteBook, among, wellFormed}
-use Rattle.book.specs.Bits.{spanWord}
-use Rattle.book.specs.Memory.{padded, routesOf, bookOf}
-use Rattle.book.specs.Inside.{partly, LightpathsRead}
-use Rattle.book.proofs.Parts.{parts}
-use Rattle.book.proofs.Padded.{padded-long}
-use Rattle.book.proofs.Stages.{lightpaths-held}
+use Rattle.book.specs.Book.{Lightpath, RouteBook, among}
+use Rattle.book.specs.Memory.{routesOf, bookOf}
 use Rattle.book.proofs.Lightpaths.{column-at}
 use Rattle.book.proofs.Words.{low-has, high-has}
 use Rattle.book.proofs.Writers.{noLightpath, route-here}
 use Rattle.judgement.specs.Network.{sideOf}
-use Rattle.judgement.specs.Judgement.{network, rides, without, allUp, lowest}
-use Rattle.judgement.specs.Inside.{netOf, Fits, unset}
+use Rattle.judgement.specs.Judgement.{network, rides, without, allUp}
+use Rattle.judgement.specs.Inside.{netOf, unset}
 use Rattle.judgement.proofs.Alike.{side-alike}
-use Rattle.book.proofs.Bounds.{counts}
 
 module _ (m : RouteBook) where
   -- which lightpaths are up decides the side of s
@@ -53,30 +46,3 @@ module _ (m : RouteBook) where
 
     pub side-up : sideOf (netOf (b .lightpaths) (b .from) (b .to)) (λ k. true) 64 s ≡ sideOf (network m) allUp 64 s
     side-up = rw e (alike (λ k. true) allUp (λ k w. refl) s)
-
-  -- the lowest number of the set that the struct holds
-  pub start-is : {b : Book} {start : ℕ} → b ≡ bookOf m → start ≡ trailingZeros 64 (b .stations) → start ≡ lowest m
-  start-is e h = h ∙ ap (λ (x : Book). trailingZeros 64 (x .stations)) e
-
-  module _ (fits : wellFormed m ≡ true) where
-    few : (length (m .nodes) ≤ 64) × (length (m .spans) ≤ 128) × (length (m .lightpaths) ≤ 96) × (length (m .alternatives) ≤ 56)
-    few = counts m fits
-
-    -- what the code relies on
-    pub held-fits : {b : Book} → b ≡ bookOf m → Fits (b .lightpaths) (b .from) (b .to)
-    held-fits e =
-        let p = parts m fits in
-        let r : LightpathsRead (bookOf (partly (m .nodes) (m .spans) (m .lightpaths) [])) =
-        record { ns = m .nodes; sps = m .spans; lps = m .lightpaths; is = refl; nodes-few = few .0; spans-few = few .1; lightpaths-few = few .2; spans-fit = p .spans; fit = p .lightpaths }
-        in
-        let o = lightpaths-held r .owners-low in
-        rw e (record { few = few .2; from-long = o .from-long; to-long = o .to-long; from-low = o .from-low; to-low = o .to-low })
-
-    word-long : (w : ℕ) → length (padded 152 (map (spanWord w) (routesOf (m .lightpaths) (m .alternatives)))) ≡ 152
-    word-long w =
-        let rs = routesOf (m .lightpaths) (m .alternatives) in
-        let n : length rs ≡ length (m .lightpaths) + length (m .alternatives) = simp (length-append, length-map) in
-        padded-long 152 (map (spanWord w) rs) (omega (arith, length-map rs (spanWord w), n, few))
-
-    pub words-long : {b : Book} → b ≡ bookOf m → (length (b .low) ≡ 152) × (length (b .high) ≡ 152)
-    words-long e = rw e (word-long 0, word-long 1)

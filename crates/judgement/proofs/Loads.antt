@@ -17,7 +17,7 @@ use Rattle.book.specs.Memory.{bookOf}
 use Rattle.book.specs.Choice.{lightpathAt}
 use Rattle.book.proofs.Tests.{and-inv}
 use Rattle.book.proofs.Stands.{length-most}
-use Rattle.book.proofs.Bounds.{counts, lightpath-fits}
+use Rattle.book.proofs.Bounds.{lightpath-fits}
 use Rattle.book.proofs.Once.{once, count-none, count-most, count-last}
 use Rattle.book.proofs.Writers.{row-here, len-here}
 use Rattle.judgement.specs.Judgement.{rides, sum, one, load}

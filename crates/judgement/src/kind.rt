@@ -96,8 +96,8 @@ fn usable(b: Book) -> bool
     if 128 < b.spans {
         return false;
     }
-    let all = Side { mask: b.stations };
-    let start = all.lowest();
+    let stations = Side { mask: b.stations };
+    let start = stations.lowest();
     if 63 < start {
         return false;
     }

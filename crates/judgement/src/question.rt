@@ -9,14 +9,14 @@ ghost use Prim.Native.Nat.{_<_};
 ghost use Rattle.book.specs.Book.{RouteBook, wellFormed};
 ghost use Rattle.book.specs.Memory.{bookOf};
 ghost use Rattle.book.specs.Format.{good};
-ghost use Rattle.judgement.specs.Judgement.{side, without};
 ghost use Rattle.judgement.specs.Answers.{askedOf};
-ghost use Rattle.judgement.specs.Holding.{Held};
+ghost use Rattle.judgement.specs.Arrays.{upIn, sideBy};
+ghost use Rattle.judgement.specs.Holding.{Held, Usable};
 
 // The side with span x out.
 fn side_out(b: Book, x: u8) -> Side
-    requires { ⌜ Held b × (x < 128) ⌝ }
-    ensures { λ r. ⌜ ((m : RouteBook) → b ≡ bookOf m → wellFormed m ≡ true → r .mask ≡ side m (without m x)) ⌝ }
+    requires { ⌜ Usable b × (x < 128) ⌝ }
+    ensures { λ r. ⌜ r .mask ≡ sideBy b (upIn b x) ⌝ }
 {
     let all = Side { mask: b.stations };
     let start = all.lowest();

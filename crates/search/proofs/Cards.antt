@@ -39,6 +39,18 @@ unfolding reading book each opened below some count different walks lengthFits s
 P7 = refl
 
 -- limits at the ends of the range, and a refusal, whatever the limit
-pub limits : (searchedOf (reading alone) 0 ≡ Told (More 0 1)) × (searchedOf (reading unmovable) 4294967295 ≡ Told (None 1)) × (searchedOf (reading E) 4294967295 ≡ Told (Found 1 2)) × (searchedOf (reading []) 0 ≡ Refused 1 0)
+pub limits : (searchedOf (reading alone) 0 ≡ Told (More 0 1)) × (searchedOf (reading unmovable) 4294967295 ≡ Told (None 1))
+    × (searchedOf (reading E) 4294967295 ≡ Told (Found 1 2)) × (searchedOf (reading []) 0 ≡ Refused 1 0)
 unfolding reading book each opened below some count different walks lengthFits spanEnds lightpathEnds follows bit has put stationsInto padded movableFrom product digits digitFor alternativesOf rerouted brought grown swept settled sideOf sum firstOf trailingZeros
 limits = (refl, refl, refl, refl)
+
+-- two stations and three spans between them, the first with a limit w; two lightpaths, over the first and the second, and the third span for an alternative
+-- of the first lightpath: with w raised from 0 to 1, FOUND has a lower number
+abbrev double : ℕ → List ℕ
+double w =
+    0x48 ∷ 0x44 ∷ 2 ∷ 3 ∷ 2 ∷ 1 ∷ 0x4e ∷ 0x44 ∷ 1 ∷ 0x4e ∷ 0x44 ∷ 1 ∷ 0x53 ∷ 0x50 ∷ 0 ∷ 1 ∷ w ∷ 0x53 ∷ 0x50 ∷ 0 ∷ 1 ∷ 1 ∷ 0x53 ∷ 0x50 ∷ 0 ∷ 1 ∷ 1
+    ∷ 0x4c ∷ 0x50 ∷ 0 ∷ 1 ∷ 1 ∷ 0 ∷ 0x4c ∷ 0x50 ∷ 0 ∷ 1 ∷ 1 ∷ 1 ∷ 0x41 ∷ 0x4c ∷ 0 ∷ 1 ∷ 2 ∷ 0x45 ∷ 0x4e ∷ []
+
+pub lower : (searchedOf (reading (double 0)) 2 ≡ Told (Found 1 2)) × (searchedOf (reading (double 1)) 2 ≡ Told (Found 0 2))
+unfolding reading book each opened below some count different walks lengthFits spanEnds lightpathEnds follows bit has put stationsInto padded movableFrom product digits digitFor alternativesOf rerouted brought grown swept settled sideOf sum firstOf trailingZeros
+lower = (refl, refl)

@@ -24,7 +24,8 @@ use Rattle.search.proofs.Findings.{given, given-only, found-exact, none
 use Rattle.search.proofs.Told.{tells}
 
 -- a greater limit, from the contract of `search`: r is its answer with the one, q with the other
-module _ (s : List ℕ) (limit limit′ : ℕ) (more-trials : limit ≤ limit′) (r q : Searched) (met : r ≡ searchedOf (reading s) limit) (met′ : q ≡ searchedOf (reading s) limit′) where
+module _ (s : List ℕ) (limit limit′ : ℕ) (more-trials : limit ≤ limit′)
+    (r q : Searched) (met : r ≡ searchedOf (reading s) limit) (met′ : q ≡ searchedOf (reading s) limit′) where
   same : {f : Finding} → ((m : RouteBook) → finding m limit ≡ f → finding m limit′ ≡ f) → r ≡ Told f → q ≡ r
   same kept e =
       let x = tells s limit r met e in
@@ -48,7 +49,8 @@ module _ (m m′ : RouteBook) (r : Raised m m′) (same-alternatives : m .altern
   pub stays : (n : ℕ) → acceptableAt m n ≡ true → acceptableAt m′ n ≡ true
   stays n e =
       let ds = digits (sizes m) n in
-      subst (λ (zs : List ℕ). acceptable (chosenBy m′ (digits zs n)) ≡ true) same-sizes (raised (chosenBy m ds) (chosenBy m′ ds) (raised-chosen m m′ r same-alternatives ds) e)
+      subst (λ (zs : List ℕ). acceptable (chosenBy m′ (digits zs n)) ≡ true) same-sizes
+      (raised (chosenBy m ds) (chosenBy m′ ds) (raised-chosen m m′ r same-alternatives ds) e)
 
   pub raised-finding : (limit n t : ℕ) → finding m limit ≡ Found n t → (n′ : ℕ) × (n′ ≤ n) × (finding m′ limit ≡ Found n′ t)
   raised-finding limit n t e = go (given m′ limit) refl
@@ -80,12 +82,16 @@ module _ (m m′ : RouteBook) (r : Raised m m′) (same-alternatives : m .altern
 
       go : {f : Finding} → Given m′ limit f → finding m′ limit ≡ f → (finding m′ limit ≡ finding m limit) ⊎ ((n : ℕ) × (finding m′ limit ≡ Found n (choices m)))
       go (found n a b h low) q = inr (n, q ∙ ap (Found n) (sym choices-kept))
-      go (none l h) q = inl (q ∙ ap None (sym choices-kept) ∙ given-only m limit (none (omega (arith, choices-kept)) (λ k u. before h k (omega (arith, choices-kept)))))
+      go (none l h) q =
+          let all = before h in
+          inl (q ∙ ap None (sym choices-kept) ∙ given-only m limit (none (omega (arith, choices-kept)) (λ k u. all k (omega (arith, choices-kept)))))
       go (more l h) q = inl (q ∙ ap (More limit) (sym choices-kept) ∙ given-only m limit (more (omega (arith, choices-kept)) (before h)))
 
 -- the same from the contract of `search`: r is its answer for the bytes of the one book, q for those of the other
-pub raised-found : (s s′ : List ℕ) (limit n t : ℕ) (m m′ : RouteBook) → reading s ≡ good m → reading s′ ≡ good m′ → Raised m m′ → m .alternatives ≡ m′ .alternatives
-    → (r q : Searched) → r ≡ searchedOf (reading s) limit → q ≡ searchedOf (reading s′) limit → r ≡ Told (Found n t) → (n′ : ℕ) × (n′ ≤ n) × (q ≡ Told (Found n′ t))
+pub raised-found : (s s′ : List ℕ) (limit n t : ℕ) (m m′ : RouteBook) → reading s ≡ good m → reading s′ ≡ good m′
+    → Raised m m′ → m .alternatives ≡ m′ .alternatives
+    → (r q : Searched) → r ≡ searchedOf (reading s) limit → q ≡ searchedOf (reading s′) limit
+    → r ≡ Told (Found n t) → (n′ : ℕ) × (n′ ≤ n) × (q ≡ Told (Found n′ t))
 raised-found s s′ limit n t m m′ reads reads′ raise same r q met met′ e =
     let is : Told (finding m limit) ≡ Told (Found n t) = ap (λ (g : Reading). searchedOf g limit) (sym reads) ∙ sym met ∙ e in
     let x = raised-finding m m′ raise same limit n t cc in

@@ -37,6 +37,10 @@ module _ (s : List ℕ) where
   abbrev pub JudgedOkay : ℕ → Type 0
   JudgedOkay n = judgedOf (chosenOf (reading s) n) ≡ judged.Told Okay
 
+  -- and for no choice below x
+  abbrev pub NoneOkay : ℕ → Type 0
+  NoneOkay x = (k : ℕ) → k < x → JudgedOkay k → ⊥
+
   -- the bytes are a well-formed book with t choices
   pub record Counts (t : ℕ) : Type 0 where
     pub book : RouteBook
@@ -65,10 +69,10 @@ module _ (s : List ℕ) (m : RouteBook) (reads : reading s ≡ good m) where
       none e = let z : _≡_ {A = ℕ} 0 1 = cc in absurd (omega arith)
 
   -- so for the numbers below x
-  none-judged : (x : ℕ) → NoneBelow m x → (k : ℕ) → k < x → JudgedOkay s k → ⊥
+  none-judged : (x : ℕ) → NoneBelow m x → NoneOkay s x
   none-judged x h k l j = false≢true (sym (h k l) ∙ from-judged k j .1)
 
-  judged-none : (x : ℕ) → x ≤ choices m → ((k : ℕ) → k < x → JudgedOkay s k → ⊥) → NoneBelow m x
+  judged-none : (x : ℕ) → x ≤ choices m → NoneOkay s x → NoneBelow m x
   judged-none x u h k l = go (acceptableAt m k) refl
     where
       go : (t : Bool) → acceptableAt m k ≡ t → t ≡ false
@@ -85,21 +89,22 @@ module _ (s : List ℕ) (limit : ℕ) (h : Bytes s) (r : Searched) (met : r ≡ 
   searched : {t : ℕ} (c : Counts s t) {f : Finding} → finding (c .book) limit ≡ f → r ≡ Told f
   searched c e = met ∙ ap (λ (g : Reading). searchedOf g limit) (reads-as c) ∙ ap Told e
 
-  pub found-means : (n t : ℕ) → (r ≡ Told (Found n t)) ↔ ((n < limit) × JudgedOkay s n × ((k : ℕ) → k < n → JudgedOkay s k → ⊥) × Counts s t)
+  pub found-means : (n t : ℕ) → (r ≡ Told (Found n t)) ↔ ((n < limit) × JudgedOkay s n × NoneOkay s n × Counts s t)
   found-means n t = (to, from)
     where
-      to : r ≡ Told (Found n t) → (n < limit) × JudgedOkay s n × ((k : ℕ) → k < n → JudgedOkay s k → ⊥) × Counts s t
+      to : r ≡ Told (Found n t) → (n < limit) × JudgedOkay s n × NoneOkay s n × Counts s t
       to e =
           let x = tells s limit r met e in
           let m = x .book in
           let p = found-exact m limit n t .0 (x .is) in
           (p .0, to-judged s m (x .reads) n (p .1) (p .2), none-judged s m (x .reads) n (p .3), counts-of m (x .reads) (p .4))
 
-      from : (n < limit) × JudgedOkay s n × ((k : ℕ) → k < n → JudgedOkay s k → ⊥) × Counts s t → r ≡ Told (Found n t)
+      from : (n < limit) × JudgedOkay s n × NoneOkay s n × Counts s t → r ≡ Told (Found n t)
       from p =
           let c = p .3 in
           let j = from-judged s (c .book) (reads-as c) n (p .1) in
-          searched c (found-exact (c .book) limit n t .1 (p .0, j .0, j .1, judged-none s (c .book) (reads-as c) n (omega (arith, j .0)) (p .2), c .is))
+          let below = judged-none s (c .book) (reads-as c) n (omega (arith, j .0)) (p .2) in
+          searched c (found-exact (c .book) limit n t .1 (p .0, j .0, j .1, below, c .is))
 
   pub none-means : (t : ℕ) → (r ≡ Told (None t)) ↔ ((t ≤ limit) × ((k : ℕ) → JudgedOkay s k → ⊥) × Counts s t)
   none-means t = (to, from)
@@ -109,27 +114,31 @@ module _ (s : List ℕ) (limit : ℕ) (h : Bytes s) (r : Searched) (met : r ≡ 
           let x = tells s limit r met e in
           let m = x .book in
           let p = none-exact m limit t .0 (x .is) in
-          (omega (arith, p .0, p .2), (λ k j. none-judged s m (x .reads) (choices m) (p .1) k (from-judged s m (x .reads) k j .0) j), counts-of m (x .reads) (p .2))
+          let none = none-judged s m (x .reads) (choices m) (p .1) in
+          (omega (arith, p .0, p .2), (λ k j. none k (from-judged s m (x .reads) k j .0) j), counts-of m (x .reads) (p .2))
 
       from : (t ≤ limit) × ((k : ℕ) → JudgedOkay s k → ⊥) × Counts s t → r ≡ Told (None t)
       from p =
           let c = p .2 in
-          searched c (none-exact (c .book) limit t .1 (omega (arith, p .0, c .is), judged-none s (c .book) (reads-as c) (choices (c .book)) (omega arith) (λ k l. p .1 k), c .is))
+          let all = judged-none s (c .book) (reads-as c) (choices (c .book)) (omega arith) (λ k l. p .1 k) in
+          searched c (none-exact (c .book) limit t .1 (omega (arith, p .0, c .is), all, c .is))
 
-  pub more-means : (b t : ℕ) → (r ≡ Told (More b t)) ↔ ((limit < t) × ((k : ℕ) → k < limit → JudgedOkay s k → ⊥) × (b ≡ limit) × Counts s t)
+  pub more-means : (b t : ℕ) → (r ≡ Told (More b t)) ↔ ((limit < t) × NoneOkay s limit × (b ≡ limit) × Counts s t)
   more-means b t = (to, from)
     where
-      to : r ≡ Told (More b t) → (limit < t) × ((k : ℕ) → k < limit → JudgedOkay s k → ⊥) × (b ≡ limit) × Counts s t
+      to : r ≡ Told (More b t) → (limit < t) × NoneOkay s limit × (b ≡ limit) × Counts s t
       to e =
           let x = tells s limit r met e in
           let m = x .book in
           let p = more-exact m limit b t .0 (x .is) in
           (omega (arith, p .0, p .3), none-judged s m (x .reads) limit (p .1), p .2, counts-of m (x .reads) (p .3))
 
-      from : (limit < t) × ((k : ℕ) → k < limit → JudgedOkay s k → ⊥) × (b ≡ limit) × Counts s t → r ≡ Told (More b t)
+      from : (limit < t) × NoneOkay s limit × (b ≡ limit) × Counts s t → r ≡ Told (More b t)
       from p =
           let c = p .3 in
-          searched c (more-exact (c .book) limit b t .1 (omega (arith, p .0, c .is), judged-none s (c .book) (reads-as c) limit (omega (arith, p .0, c .is)) (p .1), p .2, c .is))
+          let within : limit < choices (c .book) = omega (arith, p .0, c .is) in
+          let below = judged-none s (c .book) (reads-as c) limit (omega (arith, within)) (p .1) in
+          searched c (more-exact (c .book) limit b t .1 (within, below, p .2, c .is))
 
   -- so a choice that was found meets demand 2, in both forms
   pub found-survives : {n t : ℕ} → r ≡ Told (Found n t) → Meets Survives s n × Meets CutForm s n

@@ -3,50 +3,49 @@
 use Prim.Native.Nat.{ℕ, _<_, _≤_, min, zero-le}
 use mathlib.Core.Path.{_≡_, refl, sym, ap, _∙_, subst}
 use mathlib.Core.Logic.{_↔_}
-use mathlib.Core.Bool.{Bool, true, false, cond}
+use mathlib.Core.Bool.{true}
+use native.Mathlib.Decide.{decLt}
 use native.Mathlib.Omega.{arith}
-use lib.Dec.{leb}
-use borrow.Author.Tests.{leb-true, leb-false, le-leb, lt-leb}
+use borrow.Author.Tests.{le-leb, lt-leb}
 use Rattle.book.specs.Book.{RouteBook, wellFormed}
 use Rattle.book.specs.Choice.{choices}
 use Rattle.book.proofs.Choices.{choices-some}
 use Rattle.judgement.proofs.First.{First, there, nowhere, first, first-only}
 use Rattle.search.specs.declared.Finding.{Finding}
 use Rattle.search.specs.declared.Finding.the-variants.{Found, None, More}
-use Rattle.search.specs.Search.{acceptableAt, unfound, finding}
+use Rattle.search.specs.Search.{acceptableAt, foundAt, unfound, finding}
 use Rattle.search.specs.Meaning.{NoneBelow, Given, found, none, more}
 
 module _ (m : RouteBook) (limit : ℕ) where
-  abbrev foundAt : ℕ → Finding
-  foundAt n = Found n (choices m)
+  -- what is left where none is found
+  pub left-none : choices m ≤ limit → None (choices m) ≡ unfound m limit
+  left-none l = rw (le-leb (choices m) limit l)
 
-  abbrev outBy : Bool → Finding
-  outBy t = cond t (None (choices m)) (More limit (choices m))
+  pub left-more : limit < choices m → More limit (choices m) ≡ unfound m limit
+  left-more l = rw (lt-leb (choices m) limit l)
 
-  -- where none of those tried is acceptable
-  unfound-given : NoneBelow m (min limit (choices m)) → Given m limit (unfound m limit)
-  unfound-given h = go (leb (choices m) limit) refl
-    where
-      go : (t : Bool) → leb (choices m) limit ≡ t → Given m limit (outBy t)
-      go true e = let l = leb-true (choices m) limit e in none l (λ k q. h k (omega arith))
-      go false e = let l = leb-false (choices m) limit e in more l (λ k q. h k (omega arith))
+  left-given : NoneBelow m (min limit (choices m)) → Given m limit (unfound m limit)
+  left-given h = elim (decLt limit (choices m)) [
+    | yes l ↦ subst (Given m limit) (left-more l) (more l (λ k q. h k (omega arith)))
+    | no l ↦ let z : choices m ≤ limit = omega arith in subst (Given m limit) (left-none z) (none z (λ k q. h k (omega arith)))
+  ]
 
   -- THE LAW: what is found means what its kind and numbers say
   pub given : Given m limit (finding m limit)
-  given = go (first (acceptableAt m) foundAt (unfound m limit) (min limit (choices m)) 0)
+  given = go (first (acceptableAt m) (foundAt m) (unfound m limit) (min limit (choices m)) 0)
     where
-      go : {f : Finding} → First (acceptableAt m) foundAt (unfound m limit) (min limit (choices m)) 0 f → Given m limit f
+      go : {f : Finding} → First (acceptableAt m) (foundAt m) (unfound m limit) (min limit (choices m)) 0 f → Given m limit f
       go (there n a b h low) = found n (omega arith) (omega arith) h (λ k l. low k zero-le l)
-      go (nowhere h) = unfound-given (λ k l. h k zero-le (omega arith))
+      go (nowhere h) = left-given (λ k l. h k zero-le (omega arith))
 
-  out : NoneBelow m (min limit (choices m)) → unfound m limit ≡ finding m limit
-  out h = first-only (acceptableAt m) foundAt (unfound m limit) (min limit (choices m)) 0 (nowhere (λ k a l. h k (omega arith)))
+  only : {f : Finding} → First (acceptableAt m) (foundAt m) (unfound m limit) (min limit (choices m)) 0 f → f ≡ finding m limit
+  only = first-only (acceptableAt m) (foundAt m) (unfound m limit) (min limit (choices m)) 0
 
   -- and no other answer means that
   pub given-only : {f : Finding} → Given m limit f → f ≡ finding m limit
-  given-only (found n a b h low) = first-only (acceptableAt m) foundAt (unfound m limit) (min limit (choices m)) 0 (there n zero-le (omega arith) h (λ k z l. low k l))
-  given-only (none l h) = ap outBy (sym (le-leb (choices m) limit l)) ∙ out (λ k q. h k (omega arith))
-  given-only (more l h) = ap outBy (sym (lt-leb (choices m) limit l)) ∙ out (λ k q. h k (omega arith))
+  given-only (found n a b h low) = only (there n zero-le (omega arith) h (λ k z l. low k l))
+  given-only (none l h) = left-none l ∙ only (nowhere (λ k z q. h k (omega arith)))
+  given-only (more l h) = left-more l ∙ only (nowhere (λ k z q. h k (omega arith)))
 
   pub given-once : {f f′ : Finding} → Given m limit f → Given m limit f′ → f ≡ f′
   given-once g g′ = given-only g ∙ sym (given-only g′)

@@ -1,6 +1,6 @@
 -- The laws of crate search; docs/PROMISES.md lists the theorems among them.
-pub mod Trying
 pub mod Findings
+pub mod Trying
 pub mod Told
 pub mod Changes
 pub mod Demand

@@ -49,7 +49,10 @@ module _ (s : List ℕ) (h : Bytes s) (limit n t : ℕ) (r : Searched) (searched
   -- the writer can refuse such a choice for one reason only
   only-room : {k p : ℕ} → Denied s n (length out) k p → (k ≡ 11) × (length out < 3976)
   only-room (at-fault {k} {p} e) = let z : good (it .book) ≡ refused k p = sym (it .reads) ∙ e in let q : _≡_ {A = ℕ} 0 1 = cc in absurd (omega arith)
-  only-room (no-choice m e l) = let z : good (it .book) ≡ good m = sym (it .reads) ∙ e in let q : it .book ≡ m = cc in absurd (omega (arith, below, ap choices q))
+  only-room (no-choice m e l) =
+      let z : good (it .book) ≡ good m = sym (it .reads) ∙ e in
+      let q : it .book ≡ m = cc in
+      absurd (omega (arith, below, ap choices q))
   only-room (no-room m e l f) = (refl, omega (arith, f, room-enough m n (reading-only s m h e .1)))
 
   -- 3,976 bytes are never too few

@@ -39,8 +39,11 @@ module _ (s : List ℕ) (limit : ℕ) (r : Searched) (met : r ≡ searchedOf (re
 
   -- it has a number of its own, so number 0 means that the answer is told
   pub searched-told : Bytes s → (searchedNumbers r .number ≡ 0) ↔ ((m : RouteBook) × (reading s ≡ good m))
-  searched-told h = (go (reading s) refl met, (λ z. ap (λ (x : Searched). searchedNumbers x .number) (met ∙ ap (λ (g : Reading). searchedOf g limit) (z .1)) ∙ kinds (finding (z .0) limit)))
+  searched-told h = (go (reading s) refl met, (λ z. ap numberOf (met ∙ ap (λ (g : Reading). searchedOf g limit) (z .1)) ∙ kinds (finding (z .0) limit)))
     where
+      numberOf : Searched → ℕ
+      numberOf x = searchedNumbers x .number
+
       kinds : (f : Finding) → searchedNumbers (Told f) .number ≡ 0
       kinds (Found n t) = refl
       kinds (None t) = refl
@@ -48,4 +51,4 @@ module _ (s : List ℕ) (limit : ℕ) (r : Searched) (met : r ≡ searchedOf (re
 
       go : (g : Reading) → reading s ≡ g → r ≡ searchedOf g limit → searchedNumbers r .number ≡ 0 → (m : RouteBook) × (reading s ≡ good m)
       go (good m) q w z = (m, q)
-      go (refused k p) q w z = absurd (omega (arith, refused-within s k p h q .0, z, ap (λ (x : Searched). searchedNumbers x .number) w))
+      go (refused k p) q w z = absurd (omega (arith, refused-within s k p h q .0, z, ap numberOf w))

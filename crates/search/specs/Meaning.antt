@@ -9,7 +9,7 @@ use Rattle.search.specs.declared.Finding.the-variants.{Found, None, More
 use Rattle.search.specs.Search.{acceptableAt}
 
 module _ (m : RouteBook) where
-  -- S2: no choice with a number below n is acceptable
+  -- S2: no number below n is acceptable
   abbrev pub NoneBelow : ℕ → Type 0
   NoneBelow n = (k : ℕ) → k < n → acceptableAt m k ≡ false
 

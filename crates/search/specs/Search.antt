@@ -8,14 +8,17 @@ use Rattle.judgement.specs.Judgement.{acceptable, firstOf}
 use Rattle.search.specs.declared.Finding.{Finding}
 use Rattle.search.specs.declared.Finding.the-variants.{Found, None, More}
 
--- S2: whether the choice with number n is acceptable
+-- S2: whether the number n is acceptable
 abbrev pub acceptableAt : RouteBook → ℕ → Bool
 acceptableAt m n = acceptable (chosen m n)
 
--- S4, S5: where no choice that was tried is acceptable: NONE if the limit let all be tried, else MORE
+-- S4, S5: what is left where none is found: NONE if the limit is at least the number of choices, else MORE
 abbrev pub unfound : RouteBook → ℕ → Finding
 unfound m limit = cond (leb (choices m) limit) (None (choices m)) (More limit (choices m))
 
--- S3: FOUND with the first acceptable choice below both the limit and the number of choices
+-- S1, S3: FOUND with the first acceptable number below both the limit and the number of choices
+abbrev pub foundAt : RouteBook → ℕ → Finding
+foundAt m n = Found n (choices m)
+
 abbrev pub finding : RouteBook → ℕ → Finding
-finding m limit = firstOf (acceptableAt m) (λ n. Found n (choices m)) (unfound m limit) (min limit (choices m)) 0
+finding m limit = firstOf (acceptableAt m) (foundAt m) (unfound m limit) (min limit (choices m)) 0

@@ -42,8 +42,7 @@ fn find(b: Book, limit: u32) -> Finding
     let w = Movables::of(b);
     let total = w.total();
     let end = lesser(limit, total);
-    let first = Choice::of(0, w);
-    let mut c = first;
+    let mut c = Choice::of(0, w);
     let mut n = 0;
     while n < end {
         if trial::acceptable(b, w, c) {

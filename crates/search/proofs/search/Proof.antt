@@ -20,7 +20,9 @@ enum-told c = search needs
 was-read : (c : tie.After-enum-told) → GoodRead (now (c .before .before .before .before .before .args .s)) (c .before .before .before .read .result .book)
 was-read c =
     let s = now (c .before .before .before .before .before .args .s) in
-    reply-read s (c .before .before .before .read .result) (all-bytes s (λ i. omega (arith, c .before .before .before .before .shared-slice-known .given i))) (c .before .before .before .read .ensures) (c .enum-told .given .1)
+    let r = c .before .before .before .read in
+    let bytes = all-bytes s (λ i. omega (arith, c .before .before .before .before .shared-slice-known .given i)) in
+    reply-read s (r .result) bytes (r .ensures) (c .enum-told .given .1)
 
 find-requires : tie.Need-find-requires
 find-requires c κs = search needs

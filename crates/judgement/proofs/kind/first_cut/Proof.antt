@@ -1,8 +1,8 @@
 -- After i spans none of them parts the stations, so the first that does is the first of those left.
 -- The side of the code is the side in the arrays, by the contract of `side_without`.
-use Prim.Native.Nat.{_-_}
+use Prim.Native.Nat.{ℕ, _-_}
 use mathlib.Core.Path.{_≡_, sym, ap, _∙_}
-use mathlib.Core.Bool.{true, not}
+use mathlib.Core.Bool.{not}
 use native.Mathlib.Omega.{arith}
 use borrow.Author.Tests.{eq-eqb, ne-eqb}
 use Rattle.judgement.specs.declared.kind.Parted.the-variants.{Nowhere}
@@ -17,6 +17,17 @@ Inv-loop start base count b words n i₀ i = Looking (partsIn b start words) (cu
 
 abbrev μ-loop : tie.MeasureT-loop
 μ-loop start base count b words n i₀ i = count - i
+
+-- the side of this turn
+module _ (c : tie.After-side-without Inv-loop μ-loop) where
+  abbrev side : ℕ
+  side = let a = c .before .before .before .before .before .before .before .args in sideIn (a .t1) (a .start) (a .t3) (c .before .before .before .before .before .before .loop .i)
+
+  abbrev stations : ℕ
+  stations = c .before .before .before .before .before .before .before .args .t1 .stations
+
+  side-is : c .side-without .result .mask ≡ side
+  side-is = c .side-without .ensures
 
 cast-n : tie.Need-cast-n Inv-loop μ-loop
 cast-n c = search needs
@@ -35,9 +46,8 @@ add-t17 c = omega (arith, c .before .before .before .before .before .before .bef
 returns : tie.Need-returns Inv-loop μ-loop
 returns c =
     let l = c .before .before .before .before .before .before .before .before .loop in
-    let a = c .before .before .before .before .before .before .before .before .before .args in
-    let parts : partsIn (a .t1) (a .start) (a .t3) (l .i) ≡ true = ap not (ne-eqb (sideIn (a .t1) (a .start) (a .t3) (l .i)) (a .t1 .stations) (λ e. c .if1 .taken (c .before .before .side-without .ensures ∙ e))) in
-    rw (c .before .before .side-without .ensures) (sym (looking-hit _ _ _ (l .inv) (c .before .before .before .before .before .before .before .loop-test .taken) parts))
+    let parts = ap not (ne-eqb (side (c .before .before)) (stations (c .before .before)) (λ e. c .if1 .taken (side-is (c .before .before) ∙ e))) in
+    rw (side-is (c .before .before)) (sym (looking-hit _ _ _ (l .inv) (c .before .before .before .before .before .before .before .loop-test .taken) parts))
 
 add-i : tie.Need-add-i Inv-loop μ-loop
 add-i c = search needs
@@ -48,7 +58,8 @@ loop-less c = search needs
 loop-again : tie.Need-loop-again Inv-loop μ-loop
 loop-again c =
     let l = c .before .before .before .before .before .before .before .before .loop in
-    looking-next _ _ _ (l .inv) (c .before .before .before .before .before .before .before .loop-test .taken) (ap not (eq-eqb _ _ (sym (c .before .before .side-without .ensures) ∙ c .if1 .left)))
+    looking-next _ _ _ (l .inv) (c .before .before .before .before .before .before .before .loop-test .taken)
+    (ap not (eq-eqb (side (c .before .before)) (stations (c .before .before)) (sym (side-is (c .before .before)) ∙ c .if1 .left)))
 
 returns-2 : tie.Need-returns-2 Inv-loop μ-loop
 returns-2 c = sym (looking-end _ _ _ (c .before .loop .inv) (c .loop-test .left))

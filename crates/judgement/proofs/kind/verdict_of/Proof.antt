@@ -3,7 +3,6 @@
 use mathlib.Core.Path.{_≡_, sym, ap, _∙_}
 use mathlib.Core.Bool.{Bool, cond}
 use borrow.Author.Tests.{not-true, not-false}
-use Rattle.judgement.specs.declared.Verdict.{Verdict}
 use Rattle.judgement.specs.declared.Verdict.the-variants.{Split}
 use Rattle.judgement.specs.Arrays.{splitOrIn, overOrIn, verdictIn}
 use Rattle.judgement.specs.Holding.{Usable}

@@ -2,13 +2,22 @@
 -- F is at most 1,536, so that the sum is not too large.
 use borrow.Author.Needs.{needs}
 use native.Mathlib.Omega.{arith}
-use mathlib.Core.Path.{refl}
-use Rattle.judgement.proofs.Usable.{held-spans}
-use Rattle.judgement.proofs.Held.{held-fits, words-long}
+use mathlib.Core.Path.{_≡_, refl}
+use lib.ListN.{length}
+use Rattle.judgement.specs.Inside.{Fits}
+use Rattle.judgement.proofs.Usable.{usable-fits, held-usable, held-spans}
 use Rattle.judgement.proofs.Scores.{scoreF-most}
 use Rattle.judgement.proofs.Apart.{score-is}
 use Rattle.judgement.proofs.pairs.score_f.Statement.{statement}
 use Rattle.judgement.proofs.pairs.score_f.Tie as tie
+
+-- the arrays are as long as the struct says, and usable
+module _ (l : tie.After-low-spans) where
+  long : (length (l .before .args .t1 .low) ≡ 152) × (length (l .before .args .t1 .high) ≡ 152)
+  long = (search needs, search needs)
+
+  fits : Fits (l .before .args .t1 .lightpaths) (l .before .args .t1 .from) (l .before .args .t1 .to)
+  fits = usable-fits (held-usable (l .before .pre)) (search needs) (search needs)
 
 cast-n : tie.Need-cast-n
 cast-n c = search needs
@@ -22,14 +31,12 @@ sub-rest c = search needs
 apart-in-requires : tie.Need-apart-in-requires
 apart-in-requires c κs =
     let l = c .before .before .before .before in
-    let h = l .before .pre in
-    (held-fits (h .book) (h .fits) (h .is), words-long (h .book) (h .fits) (h .is) .0, omega (arith, l .low-spans .ensures))
+    (fits l, long l .0, omega (arith, l .low-spans .ensures))
 
 apart-in-requires-2 : tie.Need-apart-in-requires-2
 apart-in-requires-2 c κs =
     let l = c .before .before .before .before .before .before .before .before .before in
-    let h = l .before .pre in
-    (held-fits (h .book) (h .fits) (h .is), words-long (h .book) (h .fits) (h .is) .1, omega (arith, l .low-spans .ensures, held-spans h))
+    (fits l, long l .1, omega (arith, l .low-spans .ensures, held-spans (l .before .pre)))
 
 returns : tie.Need-returns
 returns c m is fits =

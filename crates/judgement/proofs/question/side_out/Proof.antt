@@ -1,9 +1,9 @@
--- A span below 64 is a bit of each lightpath's low word, and any other one of its high word.
--- The side in these arrays is the side of the book, by the laws of Held.antt.
+-- A span below 64 is a bit of each lightpath's low word, and any other one of its high word: `out-of` says which side that is.
+use mathlib.Core.Bool.{true, false}
 use native.Mathlib.Omega.{arith}
-use Rattle.judgement.specs.Judgement.{lowest}
-use Rattle.judgement.proofs.Stations.{lowest-lt}
-use Rattle.judgement.proofs.Held.{held-fits, words-long, start-is, side-low, side-high}
+use borrow.Author.Tests.{lt-ltb, le-ltb}
+use Rattle.judgement.proofs.Usable.{usable-start, usable-fits}
+use Rattle.judgement.proofs.Found.{out-of}
 use borrow.Author.Needs.{needs}
 use Rattle.judgement.proofs.question.side_out.Statement.{statement}
 use Rattle.judgement.proofs.question.side_out.Tie as tie
@@ -16,27 +16,23 @@ cast-n c = search needs
 
 side-without-requires : tie.Need-side-without-requires
 side-without-requires c κs =
-    let q = c .before .before .before .before .before .before .pre in
-    let h = q .0 in
-    let z = start-is (h .book) (h .is) (c .before .before .before .before .before .lowest .ensures) in
-    (omega (arith, z, lowest-lt (h .book) (h .fits)), held-fits (h .book) (h .fits) (h .is), words-long (h .book) (h .fits) (h .is) .0, c .before .before .before .before .if1 .taken)
+    let u = c .before .before .before .before .before .before .pre .0 in
+    (omega (arith, c .before .before .before .before .before .lowest .ensures, usable-start u), usable-fits u (search needs) (search needs), search needs, c .before .before .before .before .if1 .taken)
 
 side-without-requires-2 : tie.Need-side-without-requires-2
 side-without-requires-2 c κs =
     let q = c .before .before .before .before .before .before .pre in
-    let h = q .0 in
-    let z = start-is (h .book) (h .is) (c .before .before .before .before .before .lowest .ensures) in
-    (omega (arith, z, lowest-lt (h .book) (h .fits)), held-fits (h .book) (h .fits) (h .is), words-long (h .book) (h .fits) (h .is) .1, omega (arith, c .before .before .before .before .if1 .left, q .1))
+    (omega (arith, c .before .before .before .before .before .lowest .ensures, usable-start (q .0)), usable-fits (q .0) (search needs) (search needs), search needs, omega (arith, c .before .before .before .before .if1 .left, q .1))
 
 returns : tie.Need-returns
-returns c m e good =
-    let z = start-is m e (c .before .before .before .before .before .before .lowest .ensures) in
-    rw (c .side-without .ensures, z) (side-low m e (lowest m) (c .before .before .before .before .before .before .before .args .x) (c .before .before .before .before .before .if1 .taken))
+returns c =
+    let a = c .before .before .before .before .before .before .before .args in
+    rw (c .side-without .ensures) (out-of (a .t1) (c .before .before .before .before .before .before .lowest .ensures) (a .x) true (lt-ltb (a .x) 64 (c .before .before .before .before .before .if1 .taken)))
 
 returns-2 : tie.Need-returns-2
-returns-2 c m e good =
-    let z = start-is m e (c .before .before .before .before .before .before .lowest .ensures) in
-    rw (c .side-without2 .ensures, z) (side-high m e (lowest m) (c .before .before .before .before .before .before .before .args .x) (c .before .before .before .before .before .if1 .left) (c .before .before .before .before .before .before .before .pre .1))
+returns-2 c =
+    let a = c .before .before .before .before .before .before .before .args in
+    rw (c .side-without2 .ensures) (out-of (a .t1) (c .before .before .before .before .before .before .lowest .ensures) (a .x) false (le-ltb (a .x) 64 (c .before .before .before .before .before .if1 .left)))
 
 pub side-out-spec : {M : Type 1} → statement M
 side-out-spec =

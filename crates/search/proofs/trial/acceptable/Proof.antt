@@ -25,7 +25,9 @@ enum-told-3 c = search needs
 enum-told-4 : tie.Need-enum-told-4
 enum-told-4 c = search needs
 
-judged : (c : tie.After-verdict-of) → isOkay (c .verdict-of .result) ≡ acceptableIn (c .before .before .args .b) (c .before .before .args .w) (c .before .before .args .c)
+-- the verdict is that on the chosen book
+judged : (c : tie.After-verdict-of) → isOkay (c .verdict-of .result)
+    ≡ acceptableIn (c .before .before .args .b) (c .before .before .args .w) (c .before .before .args .c)
 judged c = ap isOkay (c .verdict-of .ensures ∙ ap verdictIn (c .before .chosen .ensures))
 
 returns : tie.Need-returns
