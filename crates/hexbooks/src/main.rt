@@ -1,9 +1,10 @@
 // Reads route books as text from standard input, one a line, and prints for each what `book::read` answers: `GOOD nodes spans lightpaths
 // alternatives` or `BAD number place`. A line has the book's bytes, at most 4,096, two lower-case hex digits each, with one blank between; `.` alone
 // is the empty book. A line that starts with `w` and a blank, and then has a book, prints the listing of src/choices.rt instead, and one that starts with
-// `j` and a blank that of src/judged.rt. A line that starts with `#` and an empty line print nothing, and any other line prints `?`. Input past 524,288
-// bytes is not read.
+// `j` and a blank that of src/judged.rt. One that starts with `s` and a blank, and then has four bytes and a book, prints the line of src/found.rt. A line
+// that starts with `#` and an empty line print nothing, and any other line prints `?`. Input past 524,288 bytes is not read.
 mod choices;
+mod found;
 mod hex;
 mod judged;
 mod say;
@@ -31,11 +32,12 @@ fn print_answer(s: &[u8]) {
     word(b"\n");
 }
 
-// What a line asks of its book: what reading answers, the listing of its choices, or that of their judgement.
+// What a line asks of its book: what reading answers, the listing of its choices, that of their judgement, or a search.
 enum Wanted {
     Reading,
     Choices,
     Judgement,
+    Search,
 }
 
 // Prints what is asked of a book.
@@ -44,6 +46,7 @@ fn print_asked(s: &[u8], wanted: Wanted) {
         Wanted::Reading => print_answer(s),
         Wanted::Choices => choices::print_book(s),
         Wanted::Judgement => judged::print_book(s),
+        Wanted::Search => found::print_search(s),
     }
 }
 
@@ -82,6 +85,10 @@ fn print_line(line: &[u8]) {
         }
         if line[0] == b'j' {
             print_book(&line[2..], Wanted::Judgement);
+            return;
+        }
+        if line[0] == b's' {
+            print_book(&line[2..], Wanted::Search);
             return;
         }
     }
