@@ -1,6 +1,6 @@
 -- The report by the answers of the operations is the report on the book: choice 0 of a well-formed book is there to be judged and scored, and the book's own
 -- bytes are searched.
-use mathlib.Core.Path.{_≡_, ap, ap₂, _∙_}
+use mathlib.Core.Path.{_≡_, ap, _∙_}
 use mathlib.Core.Bool.{Bool, true, false, cond}
 use mathlib.Core.List.{List, [], _∷_, _++_}
 use Prim.Native.Nat.{ℕ, zero, suc, _+_, _*_, _≤_}

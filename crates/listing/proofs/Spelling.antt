@@ -4,13 +4,13 @@ use Prim.Native.Nat.{ℕ, zero, suc, _+_, _-_, _*_, _/_, _%_, _^_, _≤_, _<_, z
 use mathlib.Core.Path.{_≡_, refl, sym, ap, ap₂, _∙_, subst}
 use mathlib.Core.Bool.{Bool, true, false, cond}
 use mathlib.Core.List.{List, [], _∷_, _++_}
-use native.Mathlib.Nat.{pow-zero, pow-succ', pow-le-pow-right, mul-comm, div-one, div-eq-of-lt, mul-div-cancel-left, div-div-eq-div-mul, le-div-iff-mul-le}
-use native.Mathlib.Numerals.{add-one}
+use native.Mathlib.Nat.{pow-zero, pow-succ', pow-le-pow-right, mul-comm, div-one, div-eq-of-lt, mul-div-cancel-left, div-div-eq-div-mul, le-div-iff-mul-le, div-lt-iff-lt-mul, mod-lt, mul-div-le, div-add-mod}
+use native.Mathlib.Decide.{decLt}
 use native.Mathlib.Omega.{arith}
 use lib.Dec.{ltb}
 use lib.ListN.{length, length-append}
 use borrow.Author.Tests.{lt-ltb, le-ltb}
-use Rattle.listing.specs.Text.{glyph, spelled, widthBy, width, decimal}
+use Rattle.listing.specs.Text.{glyph, spelled, widthBy, width, decimal, hex, digitOf, worthFrom, worth}
 use Rattle.listing.specs.Inside.{Adds}
 use Rattle.listing.specs.declared.text.Text.{Text}
 use Rattle.listing.proofs.Texts.{adds-none, adds-then, adds-as}
@@ -135,13 +135,17 @@ module _ {n p : ℕ} (now : Reached n p) where
       one (suc d) = rw (lt-ltb (n / p) 10 h)
 
 -- a number has a digit at least
-pub width-pos : (n : ℕ) → 0 < width n
+some : (d n : ℕ) → 0 < widthBy d n
 unfolding widthBy
-width-pos n = go (ltb n 10)
+some zero n = omega arith
+some (suc d) n = go (ltb n 10)
   where
-    go : (t : Bool) → 0 < cond t 1 (suc (widthBy 18 (n / 10)))
+    go : (t : Bool) → 0 < cond t 1 (suc (widthBy d (n / 10)))
     go true = omega arith
     go false = omega arith
+
+pub width-pos : (n : ℕ) → 0 < width n
+width-pos n = some 19 n
 
 -- how long a number is as text, and what its digits are worth
 pub spelled-long : (b k n : ℕ) → length (spelled b k n) ≡ k
@@ -160,3 +164,61 @@ width-most (suc d) n = go (ltb n 10) (width-most d (n / 10))
 
 pub decimal-short : (n : ℕ) → length (decimal n) ≤ 20
 decimal-short n = omega (arith, spelled-long 10 (width n) n, width-most 19 n)
+
+-- the worth of digits, from the last on
+worth-last : (b v : ℕ) (xs : List ℕ) (c : ℕ) → worthFrom b v (xs ++ c ∷ []) ≡ b * worthFrom b v xs + digitOf c
+unfolding worthFrom
+worth-last b v [] c = refl
+worth-last b v (x ∷ xs) c = worth-last b (b * v + digitOf x) xs c
+
+digit-back : (d : ℕ) → d < 16 → digitOf (glyph d) ≡ d
+digit-back d l = go (decLt d 10)
+  where
+    go : Dec (d < 10) → digitOf (glyph d) ≡ d
+    go (yes h) = rw (lt-ltb d 10 h, lt-ltb (48 + d) 58 (omega arith)) (omega arith)
+    go (no h) = rw (le-ltb d 10 (omega arith), le-ltb (87 + d) 58 (omega arith)) (omega arith)
+
+spelled-worth : (b k n : ℕ) → 1 < b → b ≤ 16 → n < b ^ k → worth b (spelled b k n) ≡ n
+unfolding spelled worthFrom
+spelled-worth b zero n two few l = omega (arith, pow-zero b)
+spelled-worth b (suc k) n two few l =
+    let less : n / b < b ^ k = div-lt-iff-lt-mul {k = b} {x = n} {y = b ^ k} (omega arith) .1 (omega (arith, pow-succ' b k, mul-comm b (b ^ k))) in
+    worth-last b 0 (spelled b k (n / b)) (glyph (n % b))
+    ∙ ap₂ (λ (x y : ℕ). b * x + y) (spelled-worth b k (n / b) two few less) (digit-back (n % b) (omega (arith, mod-lt n {m = b} (omega arith))))
+    ∙ div-add-mod n b
+
+-- as many digits hold the number as its width says, and no fewer
+width-holds : (d n : ℕ) → n < 10 ^ suc d → n < 10 ^ widthBy d n
+unfolding widthBy
+width-holds zero n l = l
+width-holds (suc d) n l = go (decLt n 10) (width-holds d (n / 10) (div-lt-iff-lt-mul (omega arith) .1 (omega (arith, pow-succ' 10 (suc d)))))
+  where
+    go : Dec (n < 10) → n / 10 < 10 ^ widthBy d (n / 10) → n < 10 ^ cond (ltb n 10) 1 (suc (widthBy d (n / 10)))
+    go (yes h) w = rw (lt-ltb n 10 h) h
+    go (no h) w = rw (le-ltb n 10 (omega arith)) (omega (arith, pow-succ' 10 (widthBy d (n / 10)), div-lt-iff-lt-mul {k = 10} (omega arith) .0 w))
+
+width-one : (d n : ℕ) → n < 10 → widthBy d n ≡ 1
+unfolding widthBy
+width-one zero n l = refl
+width-one (suc d) n l = rw (lt-ltb n 10 l)
+
+width-fewest : (d n : ℕ) → 10 ≤ n → 10 ^ (widthBy d n - 1) ≤ n
+unfolding widthBy
+width-fewest zero n h = omega (arith, pow-zero 10)
+width-fewest (suc d) n h = rw (le-ltb n 10 h) (go (decLt (n / 10) 10) (width-fewest d (n / 10)))
+  where
+    go : Dec (n / 10 < 10) → (10 ≤ n / 10 → 10 ^ (widthBy d (n / 10) - 1) ≤ n / 10) → 10 ^ (suc (widthBy d (n / 10)) - 1) ≤ n
+    go (yes l) ih = let e : suc (widthBy d (n / 10)) - 1 ≡ 1 = omega (arith, width-one d (n / 10) l) in subst (λ (i : ℕ). 10 ^ i ≤ n) (sym e) h
+    go (no l) ih =
+        let w = widthBy d (n / 10) in
+        let e : suc w - 1 ≡ suc (w - 1) = omega (arith, some d (n / 10)) in
+        subst (λ (i : ℕ). 10 ^ i ≤ n) (sym e) (omega (arith, pow-succ' 10 (w - 1), ih (omega arith), mul-div-le n 10))
+
+pub decimal-worth : (n : ℕ) → n < 10 ^ 20 → worth 10 (decimal n) ≡ n
+decimal-worth n l = spelled-worth 10 (width n) n (omega arith) (omega arith) (width-holds 19 n l)
+
+pub hex-worth : (d : ℕ) → d < 2 ^ 64 → worth 16 (hex d) ≡ d
+hex-worth d l = spelled-worth 16 16 d (omega arith) (omega arith) l
+
+pub decimal-fewest : (n : ℕ) → 10 ≤ n → 10 ^ (width n - 1) ≤ n
+decimal-fewest n h = width-fewest 19 n h

@@ -1,5 +1,5 @@
--- Text as bytes in ASCII: docs/REPORT.md.
-use Prim.Native.Nat.{ℕ, zero, suc, _+_, _/_, _%_, min}
+-- Text as bytes in ASCII: docs/REPORT.md, R1.
+use Prim.Native.Nat.{ℕ, zero, suc, _+_, _-_, _*_, _/_, _%_, min}
 use mathlib.Core.Bool.{cond}
 use mathlib.Core.List.{List, [], _∷_, _++_}
 use lib.Dec.{ltb}
@@ -25,11 +25,23 @@ widthBy (suc d) n = let r = suc (widthBy d (n / 10)) in cond (ltb n 10) 1 r
 abbrev pub width : ℕ → ℕ
 width n = widthBy 19 n
 
+-- R1: a number in decimal, and a side as 16 hex digits
 abbrev pub decimal : ℕ → List ℕ
 decimal n = spelled 10 (width n) n
 
 abbrev pub hex : ℕ → List ℕ
 hex n = spelled 16 16 n
+
+-- what digits are worth, read in a base: this says that `decimal` and `hex` are what they should be, and stands in no contract
+abbrev pub digitOf : ℕ → ℕ
+digitOf c = cond (ltb c 58) (c - 48) (c - 87)
+
+unfoldable pub worthFrom : ℕ → ℕ → List ℕ → ℕ
+worthFrom b v [] = v
+worthFrom b v (c ∷ cs) = worthFrom b (b * v + digitOf c) cs
+
+abbrev pub worth : ℕ → List ℕ → ℕ
+worth b cs = worthFrom b 0 cs
 
 -- the struct that holds text
 abbrev pub mostText : ℕ

@@ -1,6 +1,6 @@
 -- The line of what was found, and behind it the moves of the choice, or nothing where there is none.
-use mathlib.Core.Path.{sym, ap, _∙_}
-use mathlib.Core.List.{_++_, append-nil}
+use mathlib.Core.Path.{sym, ap}
+use mathlib.Core.List.{_++_}
 use Rattle.search.specs.declared.Finding.{Finding}
 use Rattle.listing.specs.Report.{findingLine, movesOf}
 use Rattle.listing.proofs.Texts.{adds-none, adds-then, adds-as}

@@ -1,5 +1,4 @@
 -- Line after line, from no text on.
-use mathlib.Core.Path.{_∙_}
 use mathlib.Core.List.{[]}
 use Rattle.listing.proofs.Texts.{adds-then}
 use borrow.Author.Needs.{needs}

@@ -1,5 +1,5 @@
 -- No more bytes are lent than the struct has.
-use mathlib.Core.Path.{_≡_, sym}
+use mathlib.Core.Path.{_≡_}
 use native.Mathlib.Omega.{arith}
 use lib.ListN.{length, length-take}
 use borrow.Author.Needs.{needs}
