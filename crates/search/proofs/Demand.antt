@@ -140,7 +140,7 @@ module _ (s : List ℕ) (limit : ℕ) (h : Bytes s) (r : Searched) (met : r ≡ 
           let below = judged-none s (c .book) (reads-as c) limit (omega (arith, within)) (p .1) in
           searched c (more-exact (c .book) limit b t .1 (within, below, p .2, c .is))
 
-  -- so a choice that was found meets demand 2, in both forms
+  -- so no span is over in a choice that was found, and it survives, in both forms
   pub found-survives : {n t : ℕ} → r ≡ Told (Found n t) → Meets Survives s n × Meets CutForm s n
   found-survives {n} {t} e =
       let p = found-means n t .0 e in
