@@ -1,7 +1,7 @@
 -- What the private functions of the crate tell each other.
-use Prim.Native.Nat.{ℕ}
+use Prim.Native.Nat.{ℕ, _+_, _-_, _*_}
 use mathlib.Core.Path.{_≡_}
-use mathlib.Core.Bool.{true}
+use mathlib.Core.Bool.{true, cond}
 use mathlib.Core.List.{List, [], _∷_, _++_}
 use Rattle.book.specs.declared.Book.{Book}
 use Rattle.book.specs.Book.{RouteBook, wellFormed}
@@ -18,7 +18,10 @@ use Rattle.search.specs.declared.Searched.{Searched}
 use Rattle.search.specs.declared.Searched.the-variants as searched
 use Rattle.listing.specs.Text.{textOf}
 use Rattle.listing.specs.Report.{wordBAD, wordEND, line, bookLine, verdictLine, scoreLine, findingLine, movesOf, reportLimit}
+use Rattle.listing.specs.Number.{isDigit, fits32}
 use Rattle.listing.specs.declared.text.Text.{Text}
+use Rattle.listing.specs.declared.number.Parsed.{Parsed}
+use Rattle.listing.specs.declared.number.Parsed.the-variants.{Number, Empty, NotDigits, TooGreat}
 
 -- the text r is the text t with the bytes x behind it, as far as there is room
 pub record Adds (t : Text) (x : List ℕ) (r : Text) : Type 0 where
@@ -50,3 +53,16 @@ abbrev pub goodLines : RouteBook → List ℕ → List ℕ
 goodLines m s =
     bookLine m
     ++ (judgedLine (judgedOf (chosenOf (reading s) 0)) ++ (scoredLine (scoredOf (chosenOf (reading s) 0)) ++ (searchedLines m (searchedOf (reading s) reportLimit) ++ line wordEND [])))
+
+-- a number that may be too great; and what a word is with one digit more, and with one byte more, by what it is without it
+abbrev pub fitted : ℕ → Parsed
+fitted n = cond (fits32 n) (Number n) TooGreat
+
+abbrev pub withValue : Parsed → ℕ → Parsed
+withValue (Number n) d = fitted (10 * n + d)
+withValue Empty d = fitted d
+withValue NotDigits d = NotDigits
+withValue TooGreat d = TooGreat
+
+abbrev pub withByte : Parsed → ℕ → Parsed
+withByte p c = cond (isDigit c) (withValue p (c - 48)) NotDigits

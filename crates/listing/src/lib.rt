@@ -1,5 +1,6 @@
 // What the programs print, as bytes: the lines of the report, worked out from the answers of the libraries below. docs/REPORT.md says what each is.
 mod lines;
+pub mod number;
 pub mod text;
 
 use book::Answer;
