@@ -4,3 +4,4 @@ pub mod Numbers
 pub mod Spelling
 pub mod Moves
 pub mod Reports
+pub mod Listings

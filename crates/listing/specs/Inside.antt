@@ -2,11 +2,12 @@
 use Prim.Native.Nat.{ℕ, _+_, _-_, _*_}
 use mathlib.Core.Path.{_≡_}
 use mathlib.Core.Bool.{true, cond}
-use mathlib.Core.List.{List, [], _∷_, _++_}
+use mathlib.Core.List.{List, _++_}
 use Rattle.book.specs.declared.Book.{Book}
 use Rattle.book.specs.Book.{RouteBook, wellFormed}
 use Rattle.book.specs.Format.{reading}
 use Rattle.book.specs.Memory.{bookOf}
+use Rattle.book.specs.Choice.{choices}
 use Rattle.book.specs.Writing.{chosenOf}
 use Rattle.judgement.specs.Answers.{judgedOf, scoredOf}
 use Rattle.search.specs.Answers.{searchedOf}
@@ -17,7 +18,8 @@ use Rattle.judgement.specs.declared.Scored.the-variants as scored
 use Rattle.search.specs.declared.Searched.{Searched}
 use Rattle.search.specs.declared.Searched.the-variants as searched
 use Rattle.listing.specs.Text.{textOf}
-use Rattle.listing.specs.Report.{wordBAD, wordEND, line, bookLine, verdictLine, scoreLine, findingLine, movesOf, reportLimit}
+use Rattle.listing.specs.Report.{endLine, badLine, bookLine, verdictLine, scoreLine, findingLine, movesOf, reportLimit}
+use Rattle.listing.specs.Commands.{choiceLine}
 use Rattle.listing.specs.Number.{isDigit, fits32}
 use Rattle.listing.specs.declared.text.Text.{Text}
 use Rattle.listing.specs.declared.number.Parsed.{Parsed}
@@ -33,9 +35,6 @@ pub record Holds (b : Book) (m : RouteBook) : Type 0 where
   pub fits : wellFormed m ≡ true
 
 -- the lines of an answer, also where it is a refusal
-abbrev pub badLine : ℕ → ℕ → List ℕ
-badLine k p = line wordBAD (k ∷ p ∷ [])
-
 abbrev pub judgedLine : Judged → List ℕ
 judgedLine (judged.Told v) = verdictLine v
 judgedLine (judged.Refused k p) = badLine k p
@@ -52,7 +51,11 @@ searchedLines m (searched.Refused k p) = badLine k p
 abbrev pub goodLines : RouteBook → List ℕ → List ℕ
 goodLines m s =
     bookLine m
-    ++ (judgedLine (judgedOf (chosenOf (reading s) 0)) ++ (scoredLine (scoredOf (chosenOf (reading s) 0)) ++ (searchedLines m (searchedOf (reading s) reportLimit) ++ line wordEND [])))
+    ++ (judgedLine (judgedOf (chosenOf (reading s) 0)) ++ (scoredLine (scoredOf (chosenOf (reading s) 0)) ++ (searchedLines m (searchedOf (reading s) reportLimit) ++ endLine)))
+
+-- the lines of `judge` on choice n, of which the book is c, likewise
+abbrev pub choiceLines : ℕ → RouteBook → List ℕ → List ℕ
+choiceLines n c s = choiceLine n (choices c) ++ (judgedLine (judgedOf (chosenOf (reading s) n)) ++ (scoredLine (scoredOf (chosenOf (reading s) n)) ++ endLine))
 
 -- a number that may be too great; and what a word is with one digit more, and with one byte more, by what it is without it
 abbrev pub fitted : ℕ → Parsed
