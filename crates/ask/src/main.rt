@@ -30,7 +30,7 @@ fn blame(name: &[u8], word: &[u8], why: &[u8]) {
 fn explain(p: Parsed, name: &[u8], word: &[u8]) {
     match p {
         Parsed::Number(n) => {}
-        Parsed::Empty => blame(name, word, b"it has no byte, or more than 4,096"),
+        Parsed::Empty => blame(name, word, b"it is empty"),
         Parsed::NotDigits => blame(name, word, b"it has a byte that is not a digit"),
         Parsed::TooGreat => blame(name, word, b"it is greater"),
     }
@@ -40,6 +40,10 @@ fn explain(p: Parsed, name: &[u8], word: &[u8]) {
 fn number_at(i: usize, name: &[u8]) -> Parsed {
     let mut space = io::buffer();
     let n = os::arg(i, &mut space);
+    if os::errno() == libc::ENAMETOOLONG {
+        blame(name, b"..", b"it has more than 4,096 bytes");
+        return Parsed::TooGreat;
+    }
     let p = number::parse(&space[..n]);
     explain(p, name, &space[..n]);
     p
