@@ -1,20 +1,24 @@
 -- A word byte by byte: what the bytes so far are, taken on with the bytes that are left, is what the word is. A number too great stays so with any digit
 -- behind it, and a byte that is no digit spoils all.
-use Prim.Native.Nat.{ℕ, zero, suc, _+_, _-_, _*_, _≤_, _<_}
+use Prim.Native.Nat.{ℕ, zero, suc, _+_, _-_, _*_, _/_, _%_, _^_, _≤_, _<_}
 use mathlib.Core.Path.{_≡_, refl, sym, ap, _∙_}
-use mathlib.Core.Bool.{Bool, true, false, cond, _&&_}
-use mathlib.Core.List.{List, [], _∷_}
+use mathlib.Core.Bool.{Bool, true, false, false≢true, cond, _&&_}
+use mathlib.Core.List.{List, [], _∷_, _++_}
+use mathlib.Core.Logic.{_↔_}
+use native.Mathlib.Nat.{mod-lt}
 use native.Mathlib.Decide.{decLt}
 use native.Mathlib.Omega.{arith}
 use native.Mathlib.Numerals.{add-one}
 use lib.ListN.{length, getD, drop}
 use lib.Seq.{drop-cons, drop-length}
-use borrow.Author.Tests.{lt-ltb, le-ltb, le-leb, lt-leb}
-use Rattle.listing.specs.Text.{digitOf, worthFrom, worth}
+use borrow.Author.Tests.{ltb-true, lt-ltb, le-ltb, le-leb, lt-leb}
+use Rattle.book.proofs.Tests.{and-inv, and-both}
+use Rattle.listing.specs.Text.{glyph, spelled, width, decimal, digitOf, worthFrom, worth}
 use Rattle.listing.specs.Number.{isDigit, allDigits, fits32, parsed}
 use Rattle.listing.specs.Inside.{fitted, withValue, withByte}
 use Rattle.listing.specs.declared.number.Parsed.{Parsed}
 use Rattle.listing.specs.declared.number.Parsed.the-variants.{Number, Empty, NotDigits, TooGreat}
+use Rattle.listing.proofs.Spelling.{width-pos, spelled-long, decimal-worth}
 
 -- what is known of a word, taken on with the bytes that are left
 unfoldable pub takenOn : Parsed → List ℕ → Parsed
@@ -101,3 +105,52 @@ on-empty (c ∷ cs) = ap (λ (p : Parsed). takenOn p cs) first ∙ on-fitted 0 (
   where
     first : withByte Empty c ≡ withByte (fitted 0) c
     first = let e : c - 48 ≡ 10 * 0 + (c - 48) = omega arith in ap (λ (d : ℕ). cond (isDigit c) (fitted d) NotDigits) e
+
+-- WHAT IS A NUMBER: a word of digits and nothing else, worth less than 2 to the power 32; and its worth is what it is
+abbrev isNumber : Parsed → Bool
+isNumber (Number n) = true
+isNumber Empty = false
+isNumber NotDigits = false
+isNumber TooGreat = false
+
+abbrev value : Parsed → ℕ
+value (Number n) = n
+value Empty = 0
+value NotDigits = 0
+value TooGreat = 0
+
+number-only : (w : List ℕ) (n : ℕ) → parsed w ≡ Number n → (0 < length w) × (allDigits w ≡ true) × (worth 10 w ≡ n) × (n < 2 ^ 32)
+number-only [] n e = absurd (false≢true (ap isNumber e))
+number-only (c ∷ cs) n e = go (allDigits (c ∷ cs)) refl (fits32 (worth 10 (c ∷ cs))) refl e
+  where
+    go : (a : Bool) → allDigits (c ∷ cs) ≡ a → (f : Bool) → fits32 (worth 10 (c ∷ cs)) ≡ f → cond a (cond f (Number (worth 10 (c ∷ cs))) TooGreat) NotDigits ≡ Number n
+        → (0 < length (c ∷ cs)) × (allDigits (c ∷ cs) ≡ true) × (worth 10 (c ∷ cs) ≡ n) × (n < 2 ^ 32)
+    go true p true q z = (omega arith, p, ap value z, omega (arith, ap value z, ltb-true (worth 10 (c ∷ cs)) 4294967296 q))
+    go true p false q z = absurd (false≢true (ap isNumber z))
+    go false p f q z = absurd (false≢true (ap isNumber z))
+
+number-back : (w : List ℕ) (n : ℕ) → (0 < length w) × (allDigits w ≡ true) × (worth 10 w ≡ n) × (n < 2 ^ 32) → parsed w ≡ Number n
+number-back [] n h = absurd (omega (arith, h .0))
+number-back (c ∷ cs) n h =
+    ap (λ (a : Bool). cond a (fitted (worth 10 (c ∷ cs))) NotDigits) (h .1) ∙ ap fitted (h .2) ∙ ap (λ (f : Bool). cond f (Number n) TooGreat) (lt-ltb n 4294967296 (h .3))
+
+pub number-exact : (w : List ℕ) (n : ℕ) → (parsed w ≡ Number n) ↔ ((0 < length w) × (allDigits w ≡ true) × (worth 10 w ≡ n) × (n < 2 ^ 32))
+number-exact w n = (number-only w n, number-back w n)
+
+-- and a number as it is printed is that number when it is typed
+all-both : (xs ys : List ℕ) → allDigits xs ≡ true → allDigits ys ≡ true → allDigits (xs ++ ys) ≡ true
+unfolding allDigits
+all-both [] ys p q = q
+all-both (x ∷ xs) ys p q = let a = and-inv {a = isDigit x} p in and-both (a .0) (all-both xs ys (a .1) q)
+
+spelled-digits : (k n : ℕ) → allDigits (spelled 10 k n) ≡ true
+unfolding spelled allDigits
+spelled-digits zero n = refl
+spelled-digits (suc k) n = all-both (spelled 10 k (n / 10)) (glyph (n % 10) ∷ []) (spelled-digits k (n / 10)) (last (n % 10) (mod-lt n (omega arith)))
+  where
+    last : (d : ℕ) → d < 10 → allDigits (glyph d ∷ []) ≡ true
+    last d l = rw (lt-ltb d 10 l, le-leb 48 (48 + d) (omega arith), lt-ltb (48 + d) 58 (omega arith))
+
+pub printed-parsed : (n : ℕ) → n < 2 ^ 32 → parsed (decimal n) ≡ Number n
+printed-parsed n l =
+    number-back (decimal n) n (omega (arith, spelled-long 10 (width n) n, width-pos n), spelled-digits (width n) n, decimal-worth n (omega arith), l)
