@@ -22,7 +22,7 @@ use Rattle.search.specs.Answers.{searchedOf}
 use Rattle.search.specs.declared.Finding.{Finding}
 use Rattle.search.specs.declared.Finding.the-variants.{Found, None, More}
 use Rattle.listing.specs.Text.{decimal, hex, textOf}
-use Rattle.listing.specs.Report.{wordBOOK, wordOVER, wordSPLIT, wordCUT, wordSCORE, wordFOUND, wordNONE, wordMORE, wordMOVE, wordBAD, wordEND, numbers, line, sideLine, bookLine, verdictLine, scoreLine, findingLine, moveLine, moveLines, movesOf, reportLimit, reportOf}
+use Rattle.listing.specs.Report.{wordBOOK, wordOVER, wordSPLIT, wordCUT, wordSCORE, wordFOUND, wordNONE, wordMORE, wordMOVE, wordBAD, numbers, line, sideLine, bookLine, verdictLine, scoreLine, findingLine, moveLine, moveLines, movesOf, endLine, badLine, badText, reportLimit, reportOf}
 use Rattle.listing.specs.Inside.{judgedLine, scoredLine, searchedLines, goodLines}
 use Rattle.listing.specs.declared.text.Text.{Text}
 use Rattle.listing.proofs.Texts.{text-whole}
@@ -34,30 +34,30 @@ module _ (m : RouteBook) (fits : wellFormed m ≡ true) where
 
   -- the lines by what reading and choosing give
   abbrev by : Reading → Reading → List ℕ
-  by g c = bookLine m ++ (judgedLine (judgedOf c) ++ (scoredLine (scoredOf c) ++ (searchedLines m (searchedOf g reportLimit) ++ line wordEND [])))
+  by g c = bookLine m ++ (judgedLine (judgedOf c) ++ (scoredLine (scoredOf c) ++ (searchedLines m (searchedOf g reportLimit) ++ endLine)))
 
   pub report-good : (s : List ℕ) → reading s ≡ good m → goodLines m s ≡ reportOf (good m)
   report-good s e = ap (λ (g : Reading). by g (chosenOf g 0)) e ∙ ap (by (good m)) first-choice
 
 -- THE REPORT IS SHORT: a number takes at most 20 digits, so that no line is longer than 89 bytes and the report never longer than 633
 module _ (w : List ℕ) where
-  behind-short : (ns rest : List ℕ) → length (w ++ numbers ns rest) ≤ length w + 21 * length ns + length rest
+  pub behind-short : (ns rest : List ℕ) → length (w ++ numbers ns rest) ≤ length w + 21 * length ns + length rest
   behind-short ns rest = omega (arith, length-append w (numbers ns rest), go ns)
     where
       go : (ns : List ℕ) → length (numbers ns rest) ≤ 21 * length ns + length rest
       go [] = omega arith
       go (n ∷ ns) = omega (arith, length-append (decimal n) (numbers ns rest), decimal-short n, go ns)
 
-  side-short : (ns : List ℕ) (d : ℕ) → length (sideLine w ns d) ≤ length w + 21 * length ns + 18
+  pub side-short : (ns : List ℕ) (d : ℕ) → length (sideLine w ns d) ≤ length w + 21 * length ns + 18
   side-short ns d = omega (arith, behind-short ns ((32 ∷ hex d) ++ 10 ∷ []), length-append (hex d) (10 ∷ []), spelled-long 16 16 d)
 
-verdict-short : (v : Verdict) → length (verdictLine v) ≤ 68
+pub verdict-short : (v : Verdict) → length (verdictLine v) ≤ 68
 verdict-short (Over x l k) = omega (arith, behind-short wordOVER (x ∷ l ∷ k ∷ []) (10 ∷ []))
 verdict-short (Split d) = omega (arith, side-short wordSPLIT [] d)
 verdict-short (Cut x d) = omega (arith, side-short wordCUT (x ∷ []) d)
 verdict-short Okay = omega arith
 
-finding-short : (f : Finding) → length (findingLine f) ≤ 48
+pub finding-short : (f : Finding) → length (findingLine f) ≤ 48
 finding-short (Found n t) = omega (arith, behind-short wordFOUND (n ∷ t ∷ []) (10 ∷ []))
 finding-short (None t) = omega (arith, behind-short wordNONE (t ∷ []) (10 ∷ []))
 finding-short (More b t) = omega (arith, behind-short wordMORE (b ∷ t ∷ []) (10 ∷ []))
@@ -73,17 +73,19 @@ moves-short ks ds (suc i) =
     one k d true = omega arith
     one k d false = behind-short wordMOVE (k ∷ d ∷ []) (10 ∷ [])
 
-moved-short : (m : RouteBook) (f : Finding) → length (movesOf m f) ≤ 376
+pub moved-short : (m : RouteBook) (f : Finding) → length (movesOf m f) ≤ 376
 moved-short m (Found n t) = omega (arith, moves-short (movable m) (digits (sizes m) n) 8)
 moved-short m (None t) = omega arith
 moved-short m (More b t) = omega arith
+
+pub bad-short : (k p : ℕ) → length (badText k p) ≤ 50
+bad-short k p = omega (arith, length-append (badLine k p) endLine, behind-short wordBAD (k ∷ p ∷ []) (10 ∷ []))
 
 pub report-short : (g : Reading) → length (reportOf g) ≤ 633
 report-short (good m) =
     let c = chosen m 0 in
     let f = finding m reportLimit in
-    let z = line wordEND [] in
-    let found = (findingLine f ++ movesOf m f) ++ z in
+    let found = (findingLine f ++ movesOf m f) ++ endLine in
     let scored = scoreLine (scoreF c) (scoreFc c) ++ found in
     omega (
       arith,
@@ -95,11 +97,11 @@ report-short (good m) =
       length-append (bookLine m) (verdictLine (verdict c) ++ scored),
       length-append (verdictLine (verdict c)) scored,
       length-append (scoreLine (scoreF c) (scoreFc c)) found,
-      length-append (findingLine f ++ movesOf m f) z,
+      length-append (findingLine f ++ movesOf m f) endLine,
       length-append (findingLine f) (movesOf m f),
     )
-report-short (refused k p) = omega (arith, length-append (line wordBAD (k ∷ p ∷ [])) (line wordEND []), behind-short wordBAD (k ∷ p ∷ []) (10 ∷ []))
+report-short (refused k p) = omega (arith, bad-short k p)
 
 -- so the text that is handed back is the whole report
 pub report-whole : (s : List ℕ) (t : Text) → t ≡ textOf (reportOf (reading s)) → take (t .len) (t .bytes) ≡ reportOf (reading s)
-report-whole s t e = ap (λ (x : Text). take (x .len) (x .bytes)) e ∙ text-whole (reportOf (reading s)) (omega (arith, report-short (reading s)))
+report-whole s t e = text-whole (reportOf (reading s)) (omega (arith, report-short (reading s))) e

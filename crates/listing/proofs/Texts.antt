@@ -64,9 +64,9 @@ pub adds-as : {t r : Text} {x y : List ℕ} → x ≡ y → Adds t x r → Adds 
 adds-as {t} {r} e a = subst (λ (z : List ℕ). Adds t z r) e a
 
 -- text that fits is kept whole: the first bytes of the struct, as many as it says, are all of it
-pub text-whole : (l : List ℕ) → length l ≤ 1024 → take (textOf l .len) (textOf l .bytes) ≡ l
+pub text-whole : (l : List ℕ) → length l ≤ 1024 → {t : Text} → t ≡ textOf l → take (t .len) (t .bytes) ≡ l
 unfolding textOf padded
-text-whole l h =
+text-whole l h e =
     let n : min (length l) 1024 ≡ length l = omega arith in
     let whole : take 1024 l ≡ l = take-all 1024 l h in
-    ap₂ (λ (i : ℕ) (x : List ℕ). take i (padded 1024 x)) n whole ∙ take-append-seam l _
+    ap (λ (t : Text). take (t .len) (t .bytes)) e ∙ ap₂ (λ (i : ℕ) (x : List ℕ). take i (padded 1024 x)) n whole ∙ take-append-seam l _

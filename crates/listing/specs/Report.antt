@@ -97,6 +97,17 @@ movesOf m (Found n t) = moveLines (movable m) (digits (sizes m) n) 8
 movesOf m (None t) = []
 movesOf m (More b t) = []
 
+-- R2: the last line
+abbrev pub endLine : List ℕ
+endLine = line wordEND []
+
+-- R8: a refusal
+abbrev pub badLine : ℕ → ℕ → List ℕ
+badLine k p = line wordBAD (k ∷ p ∷ [])
+
+abbrev pub badText : ℕ → ℕ → List ℕ
+badText k p = badLine k p ++ endLine
+
 -- R2: the trial limit of the report
 abbrev pub reportLimit : ℕ
 reportLimit = 65536
@@ -107,5 +118,5 @@ reportOf (good m) =
     bookLine m
     ++ (verdictLine (verdict (chosen m 0))
     ++ (scoreLine (scoreF (chosen m 0)) (scoreFc (chosen m 0))
-    ++ ((findingLine (finding m reportLimit) ++ movesOf m (finding m reportLimit)) ++ line wordEND [])))
-reportOf (refused k p) = line wordBAD (k ∷ p ∷ []) ++ line wordEND []
+    ++ ((findingLine (finding m reportLimit) ++ movesOf m (finding m reportLimit)) ++ endLine)))
+reportOf (refused k p) = badText k p

@@ -1,5 +1,8 @@
-// What the programs print, as bytes: the lines of the report, worked out from the answers of the libraries below. docs/REPORT.md says what each is.
+// What the programs print, as bytes: the report and the answers to commands, worked out from the answers of the libraries below. docs/REPORT.md and
+// docs/COMMANDS.md say what each line is.
+pub mod commands;
 mod lines;
+pub mod number;
 pub mod text;
 
 use book::Answer;
@@ -20,22 +23,22 @@ ghost use Rattle.listing.specs.Text.{textOf};
 ghost use Rattle.listing.specs.Report.{findingLine, movesOf, reportOf};
 ghost use Rattle.listing.specs.Inside.{Adds, Holds, judgedLine, scoredLine, searchedLines, goodLines};
 
-// The verdict on choice 0.
-fn judged_line(t: Text, s: &[u8]) -> Text
-    ensures { λ r. ⌜ Adds t (judgedLine (judgedOf (chosenOf (reading (now (s .entry))) 0))) r ⌝ }
+// The verdict on choice n.
+pub(crate) fn judged_line(t: Text, s: &[u8], n: u32) -> Text
+    ensures { λ r. ⌜ Adds t (judgedLine (judgedOf (chosenOf (reading (now (s .entry))) n))) r ⌝ }
 {
-    let answer = judgement::judge(s, 0);
+    let answer = judgement::judge(s, n);
     match answer {
         Judged::Told(v) => lines::verdict_line(t, v),
         Judged::Refused(no, place) => lines::bad_line(t, no, place),
     }
 }
 
-// The score of choice 0.
-fn scored_line(t: Text, s: &[u8]) -> Text
-    ensures { λ r. ⌜ Adds t (scoredLine (scoredOf (chosenOf (reading (now (s .entry))) 0))) r ⌝ }
+// The score of choice n.
+pub(crate) fn scored_line(t: Text, s: &[u8], n: u32) -> Text
+    ensures { λ r. ⌜ Adds t (scoredLine (scoredOf (chosenOf (reading (now (s .entry))) n))) r ⌝ }
 {
-    let answer = judgement::score(s, 0);
+    let answer = judgement::score(s, n);
     match answer {
         Scored::Told(f, c) => lines::score_line(t, f, c),
         Scored::Refused(no, place) => lines::bad_line(t, no, place),
@@ -55,7 +58,7 @@ fn finding_lines(t: Text, b: Book, f: Finding) -> Text
 }
 
 // What a search of the book b, whose bytes are s, answers.
-fn searched_lines(t: Text, s: &[u8], b: Book, limit: u32) -> Text
+pub(crate) fn searched_lines(t: Text, s: &[u8], b: Book, limit: u32) -> Text
     ensures { λ r. ⌜ ((m : RouteBook) → Holds b m → Adds t (searchedLines m (searchedOf (reading (now (s .entry))) limit)) r) ⌝ }
 {
     let answer = search::search(s, limit);
@@ -71,8 +74,8 @@ fn good_report(s: &[u8], b: Book) -> Text
 {
     let none = Text::none();
     let first = lines::book_line(none, b);
-    let second = judged_line(first, s);
-    let third = scored_line(second, s);
+    let second = judged_line(first, s, 0);
+    let third = scored_line(second, s, 0);
     let fourth = searched_lines(third, s, b, 65536);
     lines::end_line(fourth)
 }
@@ -86,10 +89,6 @@ pub fn report(s: &[u8]) -> Text
     let b = reply.book;
     match answer {
         Answer::Good => good_report(s, b),
-        Answer::Refused(no, place) => {
-            let none = Text::none();
-            let first = lines::bad_line(none, no, place);
-            lines::end_line(first)
-        }
+        Answer::Refused(no, place) => lines::bad_text(no, place),
     }
 }

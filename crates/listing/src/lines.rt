@@ -7,12 +7,13 @@ use judgement::Verdict;
 use search::Finding;
 ghost use mathlib.Core.Path.{_≡_};
 ghost use mathlib.Core.Bool.{true};
-ghost use mathlib.Core.List.{[], _∷_};
 ghost use Rattle.book.specs.Book.{RouteBook, wellFormed};
 ghost use Rattle.book.specs.Memory.{bookOf};
 ghost use Rattle.book.specs.Choice.{movable, sizes, digits};
+ghost use Rattle.listing.specs.Text.{textOf};
 ghost use Rattle.listing.specs.Inside.{Adds};
-ghost use Rattle.listing.specs.Report.{wordBAD, wordEND, line, bookLine, verdictLine, scoreLine, findingLine, moveLine, moveLines};
+ghost use Rattle.listing.specs.Report.{endLine, badLine, badText, bookLine, verdictLine, scoreLine, findingLine, moveLine, moveLines};
+ghost use Rattle.listing.specs.Commands.{choiceLine, joinedLine, choicesLine, writtenLine};
 
 // What the book has: nodes, spans, lightpaths, alternatives.
 pub(crate) fn book_line(t: Text, b: Book) -> Text
@@ -89,16 +90,59 @@ pub(crate) fn move_lines(t: Text, b: Book, n: u32) -> Text
     r
 }
 
+// Which choice of how many.
+pub(crate) fn choice_line(t: Text, n: u32, total: u32) -> Text
+    ensures { λ r. ⌜ Adds t (choiceLine n total) r ⌝ }
+{
+    t.word(b"CHOICE")
+        .number(n as u64)
+        .number(total as u64)
+        .end()
+}
+
+// How many choices there are.
+pub(crate) fn choices_line(t: Text, total: u32) -> Text
+    ensures { λ r. ⌜ Adds t (choicesLine total) r ⌝ }
+{
+    t.word(b"CHOICES").number(total as u64).end()
+}
+
+// Who is joined, and whether these are all stations.
+pub(crate) fn joined_line(t: Text, d: u64, all: bool) -> Text
+    ensures { λ r. ⌜ Adds t (joinedLine d all) r ⌝ }
+{
+    if all {
+        return t.word(b"JOINED").side(d).end();
+    }
+    t.word(b"PARTED").side(d).end()
+}
+
+// How many bytes were written.
+pub(crate) fn written_line(t: Text, len: usize) -> Text
+    ensures { λ r. ⌜ Adds t (writtenLine len) r ⌝ }
+{
+    t.word(b"WRITTEN").number(len as u64).end()
+}
+
 // A refusal's number and place.
 pub(crate) fn bad_line(t: Text, no: u8, place: usize) -> Text
-    ensures { λ r. ⌜ Adds t (line wordBAD (no ∷ place ∷ [])) r ⌝ }
+    ensures { λ r. ⌜ Adds t (badLine no place) r ⌝ }
 {
     t.word(b"BAD").number(no as u64).number(place as u64).end()
 }
 
 // The end of the listing.
 pub(crate) fn end_line(t: Text) -> Text
-    ensures { λ r. ⌜ Adds t (line wordEND []) r ⌝ }
+    ensures { λ r. ⌜ Adds t endLine r ⌝ }
 {
     t.word(b"END").end()
+}
+
+// The listing of a refusal.
+pub(crate) fn bad_text(no: u8, place: usize) -> Text
+    ensures { λ r. ⌜ r ≡ textOf (badText no place) ⌝ }
+{
+    let none = Text::none();
+    let first = bad_line(none, no, place);
+    end_line(first)
 }

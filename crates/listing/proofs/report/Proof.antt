@@ -1,6 +1,5 @@
 -- The reply of `read` is a good book, whose report is made, or a refusal, which is told.
-use mathlib.Core.Path.{ap, _∙_, sym}
-use mathlib.Core.List.{[]}
+use mathlib.Core.Path.{sym, ap, _∙_}
 use native.Mathlib.Omega.{arith}
 use denote.Ref.{now}
 use Rattle.book.specs.Format.{Reading}
@@ -8,7 +7,6 @@ use Rattle.book.proofs.Stages.{all-bytes}
 use Rattle.book.proofs.Written.{reply-read, reply-refused}
 use Rattle.listing.specs.Text.{textOf}
 use Rattle.listing.specs.Report.{reportOf}
-use Rattle.listing.proofs.Texts.{adds-then}
 use Rattle.listing.proofs.Reports.{report-good}
 use borrow.Author.Needs.{needs}
 use Rattle.listing.proofs.report.Statement.{statement}
@@ -26,14 +24,8 @@ good-report-requires c κs = search needs
 enum-known-answer : tie.Need-enum-known-answer
 enum-known-answer c = search needs
 
-none-requires : tie.Need-none-requires
-none-requires c κs = search needs
-
-bad-line-requires : tie.Need-bad-line-requires
-bad-line-requires c κs = search needs
-
-end-line-requires : tie.Need-end-line-requires
-end-line-requires c κs = search needs
+bad-text-requires : tie.Need-bad-text-requires
+bad-text-requires c κs = search needs
 
 returns : tie.Need-returns
 returns c =
@@ -44,11 +36,7 @@ returns c =
     ∙ ap textOf (report-good (g .book) (g .is .fits) s (g .reads) ∙ sym (ap (λ (x : Reading). reportOf x) (g .reads)))
 
 returns-2 : tie.Need-returns-2
-returns-2 c =
-    let s = now (c .before .before .before .before .before .before .before .before .before .args .s) in
-    let r = c .before .before .before .before .before .before .before .read in
-    (adds-then (c .before .bad-line .ensures) (c .end-line .ensures)) .shows [] (c .before .before .none .ensures)
-    ∙ ap textOf (sym (ap (λ (x : Reading). reportOf x) (reply-refused s (r .result) _ _ (r .ensures) (c .before .before .before .before .answer .given .1))))
+returns-2 c = c .bad-text .ensures ∙ ap (λ (x : Reading). textOf (reportOf x)) (sym (reply-refused (now (c .before .before .before .before .before .before .before .args .s)) (c .before .before .before .before .before .read .result) _ _ (c .before .before .before .before .before .read .ensures) (c .before .before .answer .given .1)))
 
 pub report-spec : {M : Type 1} → statement M
 report-spec =
@@ -58,8 +46,6 @@ report-spec =
     enum-told
     good-report-requires
     enum-known-answer
-    none-requires
-    bad-line-requires
-    end-line-requires
+    bad-text-requires
     returns
     returns-2)

@@ -3,8 +3,8 @@ use mathlib.Core.Path.{_≡_}
 use native.Mathlib.Omega.{arith}
 use lib.ListN.{length, length-take}
 use borrow.Author.Needs.{needs}
-use Rattle.report.proofs.print.Statement.{statement}
-use Rattle.report.proofs.print.Tie as tie
+use Rattle.console.proofs.print.Statement.{statement}
+use Rattle.console.proofs.print.Tie as tie
 
 cast-n : tie.Need-cast-n
 cast-n c = search needs

@@ -1,7 +1,7 @@
 -- The measure is the number of turns that are left; nothing has to hold from turn to turn.
 use borrow.Author.Needs.{needs}
-use Rattle.report.proofs.read_rest.Statement.{statement}
-use Rattle.report.proofs.read_rest.Tie as tie
+use Rattle.console.proofs.read_rest.Statement.{statement}
+use Rattle.console.proofs.read_rest.Tie as tie
 
 abbrev Inv-loop : tie.InvT-loop
 Inv-loop turns₀ turns = Unit {0}

@@ -1,0 +1,48 @@
+-- Line after line, from no text on; the struct tells how many choices there are.
+use mathlib.Core.Path.{ap}
+use mathlib.Core.List.{[]}
+use Rattle.listing.specs.Commands.{choiceLine}
+use Rattle.listing.proofs.Texts.{adds-then, adds-as}
+use Rattle.listing.proofs.Listings.{total-of}
+use borrow.Author.Needs.{needs}
+use Rattle.listing.proofs.commands.choice_lines.Statement.{statement}
+use Rattle.listing.proofs.commands.choice_lines.Tie as tie
+
+of-requires : tie.Need-of-requires
+of-requires c κs = search needs
+
+total-requires : tie.Need-total-requires
+total-requires c κs = search needs
+
+none-requires : tie.Need-none-requires
+none-requires c κs = search needs
+
+choice-line-requires : tie.Need-choice-line-requires
+choice-line-requires c κs = search needs
+
+judged-line-requires : tie.Need-judged-line-requires
+judged-line-requires c κs = search needs
+
+scored-line-requires : tie.Need-scored-line-requires
+scored-line-requires c κs = search needs
+
+end-line-requires : tie.Need-end-line-requires
+end-line-requires c κs = search needs
+
+returns : tie.Need-returns
+returns c = λ m h.
+    let all = total-of m h (c .before .before .before .before .before .before .of .ensures) (c .before .before .before .before .before .total .ensures) in
+    (adds-then (adds-as (ap (choiceLine (c .before .before .before .before .before .before .before .before .args .n)) all) (c .before .before .before .choice-line .ensures)) (adds-then (c .before .before .judged-line .ensures) (adds-then (c .before .scored-line .ensures) (c .end-line .ensures)))) .shows [] (c .before .before .before .before .none .ensures)
+
+pub choice-lines-spec : {M : Type 1} → statement M
+choice-lines-spec =
+    tie.close
+    (tie.spec
+    of-requires
+    total-requires
+    none-requires
+    choice-line-requires
+    judged-line-requires
+    scored-line-requires
+    end-line-requires
+    returns)
