@@ -1,0 +1,39 @@
+-- The numbers are those of the answer, whichever it is.
+use mathlib.Core.Path.{sym, ap, _∙_}
+use Rattle.face.specs.Numbers.{scoredRow}
+use borrow.Author.Needs.{needs}
+use Rattle.face.proofs.numbers.scored_row.Statement.{statement}
+use Rattle.face.proofs.numbers.scored_row.Tie as tie
+
+enum-known-answer : tie.Need-enum-known-answer
+enum-known-answer c = search needs
+
+cast-t7 : tie.Need-cast-t7
+cast-t7 c = search needs
+
+cast-t8 : tie.Need-cast-t8
+cast-t8 c = search needs
+
+enum-known-answer-2 : tie.Need-enum-known-answer-2
+enum-known-answer-2 c = search needs
+
+refused-row-requires : tie.Need-refused-row-requires
+refused-row-requires c κs = search needs
+
+returns : tie.Need-returns
+returns c = ap scoredRow (sym (c .before .answer .given .1))
+
+returns-2 : tie.Need-returns-2
+returns-2 c = c .refused-row .ensures ∙ ap scoredRow (sym (c .before .before .answer2 .given .1))
+
+pub scored-row-spec : {M : Type 1} → statement M
+scored-row-spec =
+    tie.close
+    (tie.spec
+    enum-known-answer
+    cast-t7
+    cast-t8
+    enum-known-answer-2
+    refused-row-requires
+    returns
+    returns-2)

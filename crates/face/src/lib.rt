@@ -1,0 +1,74 @@
+// The operations for a caller in C or Rust: numbers and slices in, and out the eight numbers of the answer, stored in a slice that the caller lends.
+// docs/FACE.md says what each number is, and face.h declares the functions.
+mod numbers;
+
+use numbers::store;
+ghost use mathlib.Core.Path.{_≡_};
+ghost use lib.ListN.{length};
+ghost use Rattle.book.specs.Format.{reading};
+ghost use Rattle.book.specs.Writing.{chosenOf, writing, writtenOf, buffer};
+ghost use Rattle.judgement.specs.Answers.{judgedOf, scoredOf, askedOf};
+ghost use Rattle.search.specs.Answers.{searchedOf};
+ghost use Rattle.face.specs.Numbers.{roomy, stored, readRow, judgedRow, scoredRow, askedRow, searchedRow, writtenRow};
+
+// Reads a book.
+#[no_mangle]
+pub extern "C" fn gristvalley_read(s: &[u8], out: &mut [u64]) -> bool
+    ensures { λ r. ⌜ (r ≡ roomy (now (out .entry))) × (now (out .exit) ≡ stored (readRow (reading (now (s .entry)))) (now (out .entry))) ⌝ }
+{
+    let reply = book::read(s);
+    let answer = reply.answer;
+    let b = reply.book;
+    let row = numbers::read_row(answer, b);
+    store(out, row)
+}
+
+// Judges choice n of a book.
+#[no_mangle]
+pub extern "C" fn gristvalley_judge(s: &[u8], n: u32, out: &mut [u64]) -> bool
+    ensures { λ r. ⌜ (r ≡ roomy (now (out .entry))) × (now (out .exit) ≡ stored (judgedRow (judgedOf (chosenOf (reading (now (s .entry))) n))) (now (out .entry))) ⌝ }
+{
+    let answer = judgement::judge(s, n);
+    let row = numbers::judged_row(answer);
+    store(out, row)
+}
+
+// Scores choice n of a book.
+#[no_mangle]
+pub extern "C" fn gristvalley_score(s: &[u8], n: u32, out: &mut [u64]) -> bool
+    ensures { λ r. ⌜ (r ≡ roomy (now (out .entry))) × (now (out .exit) ≡ stored (scoredRow (scoredOf (chosenOf (reading (now (s .entry))) n))) (now (out .entry))) ⌝ }
+{
+    let answer = judgement::score(s, n);
+    let row = numbers::scored_row(answer);
+    store(out, row)
+}
+
+// Asks about span x in choice n of a book.
+#[no_mangle]
+pub extern "C" fn gristvalley_ask(s: &[u8], n: u32, x: u32, out: &mut [u64]) -> bool
+    ensures { λ r. ⌜ (r ≡ roomy (now (out .entry))) × (now (out .exit) ≡ stored (askedRow (askedOf (chosenOf (reading (now (s .entry))) n) x)) (now (out .entry))) ⌝ }
+{
+    let answer = judgement::ask(s, n, x);
+    let row = numbers::asked_row(answer);
+    store(out, row)
+}
+
+// Searches the choices of a book, as many as the limit says.
+#[no_mangle]
+pub extern "C" fn gristvalley_search(s: &[u8], limit: u32, out: &mut [u64]) -> bool
+    ensures { λ r. ⌜ (r ≡ roomy (now (out .entry))) × (now (out .exit) ≡ stored (searchedRow (searchedOf (reading (now (s .entry))) limit)) (now (out .entry))) ⌝ }
+{
+    let answer = search::search(s, limit);
+    let row = numbers::searched_row(answer);
+    store(out, row)
+}
+
+// Writes choice n of a book into `bytes`, whether or not there is room for the numbers of the answer.
+#[no_mangle]
+pub extern "C" fn gristvalley_write(s: &[u8], n: u32, bytes: &mut [u8], out: &mut [u64]) -> bool
+    ensures { λ r. ⌜ (r ≡ roomy (now (out .entry))) × (now (out .exit) ≡ stored (writtenRow (writtenOf (writing (now (s .entry)) n (length (now (bytes .entry)))))) (now (out .entry))) × (now (bytes .exit) ≡ buffer (writing (now (s .entry)) n (length (now (bytes .entry)))) (now (bytes .entry))) ⌝ }
+{
+    let answer = book::write::write(s, n, bytes);
+    let row = numbers::written_row(answer);
+    store(out, row)
+}

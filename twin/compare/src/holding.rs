@@ -1,0 +1,181 @@
+//! Holding the two against each other on one book: every operation, with numbers in range and out of it.
+
+use crate::face;
+use crate::wanted::{self, Eight};
+use std::collections::BTreeMap;
+use twin::generate::{numbers, Random};
+use twin::numbering::total;
+use twin::searching::{search_book, Answer};
+use twin::writing::{chosen_book, encode};
+use twin::{Book, Refusal};
+
+/// How many answers there were of each kind: by operation, kind, and number of refusal.
+pub type Counts = BTreeMap<(&'static str, u64, u64), u64>;
+
+/// The most trials that a search may take on most books, and on a few.
+const MOST_TRIALS: [u32; 2] = [300, 5000];
+
+/// One book, and what came of holding the two against each other on it.
+struct Holding<'a> {
+    bytes: &'a [u8],
+    read: Result<Book, Refusal>,
+    random: Random,
+    counts: &'a mut Counts,
+    differences: Vec<String>,
+}
+
+/// Tries every operation on a book, and gives the differences.
+pub fn hold(bytes: &[u8], seed: u64, counts: &mut Counts) -> Vec<String> {
+    let mut holding = Holding {
+        bytes,
+        read: twin::read(bytes),
+        random: Random::new(seed),
+        counts,
+        differences: Vec::new(),
+    };
+    holding.all();
+    holding.differences
+}
+
+impl Holding<'_> {
+    /// A pattern, so that a place which is written by mistake is seen.
+    fn pattern(&mut self, length: usize) -> Vec<u64> {
+        (0..length).map(|_| self.random.bits()).collect()
+    }
+
+    /// Makes a call and compares all that it leaves in `out` with the numbers wanted.
+    fn same(
+        &mut self,
+        name: &'static str,
+        input: &[u32],
+        wanted: Eight,
+        call: impl FnOnce(&[u8], &mut [u64]) -> bool,
+    ) {
+        *self.counts.entry((name, wanted[0], wanted[1])).or_default() += 1;
+        let length = *self.random.pick(&[8, 8, 8, 9, 9, 20, 7, 0]);
+        let before = self.pattern(length);
+        let mut expected = before.clone();
+        if let Some(front) = expected.get_mut(..8) {
+            front.copy_from_slice(&wanted);
+        }
+        let mut out = before;
+        let room = call(self.bytes, &mut out);
+        if room != (length >= 8) || out != expected {
+            let line = format!(
+                "{name} {input:?}, out of {length}: {expected:?} by the twin, and {room} {out:?}"
+            );
+            self.differences.push(line);
+        }
+    }
+
+    /// Numbers of choices and spans, and limits, in range and out of it; the same few where the book is refused.
+    fn drawn(&mut self) -> (Vec<u32>, Vec<u32>, Vec<u32>) {
+        let Ok(book) = &self.read else {
+            return (
+                vec![0, self.random.bits() as u32],
+                vec![0],
+                vec![0, u32::MAX],
+            );
+        };
+        let total = total(book);
+        let spans = book.spans.len() as u32;
+        let first = numbers(&mut self.random, book);
+        let second = numbers(&mut self.random, book);
+        let choices = vec![
+            0,
+            first.choice,
+            second.choice,
+            total - 1,
+            *self.random.pick(&[total, u32::MAX]),
+        ];
+        let last = *self
+            .random
+            .pick(&[spans.saturating_sub(1), spans, u32::MAX]);
+        let limits = self.limits(total);
+        (choices, vec![first.span, second.span, last], limits)
+    }
+
+    /// Trial limits around 0, T and the highest number; the last two only where the search is short all the same.
+    fn limits(&mut self, total: u32) -> Vec<u32> {
+        let most = MOST_TRIALS[usize::from(self.random.chance(2))];
+        let few = self.random.below(most as usize) as u32;
+        let found = match &self.read {
+            Ok(book) => search_book(book, most / 4),
+            Err(_) => return vec![0],
+        };
+        let mut limits = vec![self.random.below(3) as u32];
+        if let Answer::Found { choice, .. } = found {
+            limits.extend([
+                choice,
+                choice + 1,
+                *self.random.pick(&[total - 1, total, total + 1, u32::MAX]),
+            ]);
+        } else if total <= most {
+            limits.push(
+                *self
+                    .random
+                    .pick(&[total - 1, total, total + 1, u32::MAX, few]),
+            );
+        } else {
+            limits.push(few);
+        }
+        limits
+    }
+
+    /// Every operation.
+    fn all(&mut self) {
+        let read = wanted::read(self.read.as_ref().map_err(|refusal| *refusal));
+        self.same("read", &[], read, face::read);
+        let (choices, spans, limits) = self.drawn();
+        for &choice in &choices {
+            let judged = wanted::judged(twin::judge(self.bytes, choice));
+            self.same("judge", &[choice], judged, |s, out| {
+                face::judge(s, choice, out)
+            });
+        }
+        for &choice in &choices[1..] {
+            let scored = wanted::scored(twin::score(self.bytes, choice));
+            self.same("score", &[choice], scored, |s, out| {
+                face::score(s, choice, out)
+            });
+            self.written(choice);
+        }
+        for (&choice, &span) in choices[1..].iter().zip(&spans) {
+            let asked = wanted::asked(twin::ask(self.bytes, choice, span));
+            self.same("ask", &[choice, span], asked, |s, out| {
+                face::ask(s, choice, span, out)
+            });
+        }
+        for &limit in &limits {
+            let searched = wanted::searched(twin::search(self.bytes, limit));
+            self.same("search", &[limit], searched, |s, out| {
+                face::search(s, limit, out)
+            });
+        }
+    }
+
+    /// Writes a choice into buffers of exactly its length, one byte shorter, empty, and longer, and compares every byte.
+    fn written(&mut self, choice: u32) {
+        let exact = match &self.read {
+            Ok(book) => encode(&chosen_book(book, choice.min(total(book) - 1))).len(),
+            Err(_) => self.bytes.len().max(1),
+        };
+        let longer = exact + self.random.between(1, 200);
+        for length in [exact, exact - 1, 0, longer] {
+            let mut by_twin: Vec<u8> = self
+                .pattern(length)
+                .iter()
+                .map(|&bits| bits as u8)
+                .collect();
+            let mut bytes = by_twin.clone();
+            let written = wanted::written(twin::write(self.bytes, choice, &mut by_twin));
+            self.same("write", &[choice, length as u32], written, |s, out| {
+                face::write(s, choice, &mut bytes, out)
+            });
+            if bytes != by_twin {
+                self.differences
+                    .push(format!("write {choice} into {length}: other bytes"));
+            }
+        }
+    }
+}

@@ -1,0 +1,80 @@
+//! The cut-set form: every two-sided division of the stations is tried, so for small books only.
+
+use crate::judgement::{over, Verdict};
+use crate::numbering::Plan;
+
+/// The most stations for which all divisions are tried.
+pub const MOST_STATIONS: usize = 12;
+
+/// Every two-sided division, as the side that holds the lowest station; the other isn't empty.
+pub fn divisions(plan: &Plan) -> Vec<u64> {
+    let stations = plan.book.station_numbers();
+    assert!(stations.len() <= MOST_STATIONS, "too many divisions");
+    let mut sides = vec![1 << stations[0]];
+    for station in &stations[1..] {
+        let with: Vec<u64> = sides.iter().map(|side| side | 1 << station).collect();
+        sides.extend(with);
+    }
+    let all = plan.book.station_set();
+    sides.retain(|&side| side != all);
+    sides
+}
+
+/// The cut set of a division: the lightpaths with one end on each side.
+pub fn crossing(plan: &Plan, side: u64) -> Vec<usize> {
+    let within = |end: u8| side >> end & 1 == 1;
+    (0..plan.book.lightpaths.len())
+        .filter(|&number| {
+            let lightpath = &plan.book.lightpaths[number];
+            within(lightpath.from) != within(lightpath.to)
+        })
+        .collect()
+}
+
+/// The divisions whose whole cut set `span` carries; with no span, those with an empty cut set.
+pub fn parting(plan: &Plan, span: Option<usize>) -> Vec<u64> {
+    let carried = |number: usize| span.is_some_and(|span| plan.holds(number, span));
+    divisions(plan)
+        .into_iter()
+        .filter(|&side| crossing(plan, side).into_iter().all(carried))
+        .collect()
+}
+
+/// The side of a state: what every parting division keeps with the lowest station.
+pub fn side(plan: &Plan, span: Option<usize>) -> u64 {
+    parting(plan, span)
+        .into_iter()
+        .fold(plan.book.station_set(), |side, part| side & part)
+}
+
+/// The verdict on a plan, by cut sets; empty cut sets belong to SPLIT.
+pub fn verdict(plan: &Plan) -> Verdict {
+    if let Some(over) = over(plan) {
+        return over;
+    }
+    if !parting(plan, None).is_empty() {
+        let side = side(plan, None);
+        return Verdict::Split { side };
+    }
+    (0..plan.book.spans.len())
+        .find(|&span| !parting(plan, Some(span)).is_empty())
+        .map_or(Verdict::Okay, |span| Verdict::Cut {
+            span,
+            side: side(plan, Some(span)),
+        })
+}
+
+/// F by cut sets: riders of a span whose ends some division parts that the span wholly carries.
+pub fn score(plan: &Plan) -> u32 {
+    let mut pairs = 0;
+    for span in 0..plan.book.spans.len() {
+        let parting = parting(plan, Some(span));
+        for (rider, lightpath) in plan.book.lightpaths.iter().enumerate() {
+            let parts = |side: &u64| (side >> lightpath.from ^ side >> lightpath.to) & 1 == 1;
+            if plan.holds(rider, span) && parting.iter().any(parts) {
+                pairs += 1;
+            }
+        }
+    }
+    pairs
+}

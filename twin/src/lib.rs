@@ -1,0 +1,33 @@
+//! Route books: reader, judgement of a choice, score, search, writer and report.
+
+#![warn(missing_docs)]
+
+/// The route book as data, its bounds, and the refusal.
+pub mod book;
+/// The cut-set form of the judgement, for small books.
+pub mod cutset;
+/// Seeded making of good and damaged books.
+pub mod generate;
+/// Bytes as lower-case hex digits and back.
+pub mod hex;
+/// Stations joined by chains of lightpaths.
+pub mod joining;
+/// The verdict, the score and the question about a span.
+pub mod judgement;
+/// The numbering of choices.
+pub mod numbering;
+/// The reader of route books.
+pub mod reading;
+/// The listing of the report program.
+pub mod reporting;
+/// The search over choices.
+pub mod searching;
+/// The writer of the chosen book.
+pub mod writing;
+
+pub use book::{Book, Refusal};
+pub use judgement::{ask, judge, score, Verdict};
+pub use reading::read;
+pub use reporting::report;
+pub use searching::{search, Answer};
+pub use writing::write;
