@@ -1,6 +1,5 @@
 -- One word where the side has all stations, and another where it has not.
 use mathlib.Core.Path.{sym, ap}
-use mathlib.Core.Bool.{Bool}
 use Rattle.listing.specs.Commands.{joinedLine}
 use Rattle.listing.proofs.Texts.{adds-then, adds-as}
 use borrow.Author.Needs.{needs}
