@@ -43,7 +43,8 @@ total-of m h e p = p ∙ ap (λ (w : Movables). product (sizesIn w)) e ∙ total
 module _ (m : RouteBook) (s : List ℕ) (n : ℕ) where
   pub judge-good : chosenOf (reading s) n ≡ good m → choiceLines n m s ≡ judgeOf n (chosenOf (reading s) n)
   judge-good e =
-      ap (λ (g : Reading). choiceLine n (choices m) ++ (judgedLine (judgedOf g) ++ (scoredLine (scoredOf g) ++ endLine))) e ∙ sym (ap (λ (g : Reading). judgeOf n g) e)
+      ap (λ (g : Reading). choiceLine n (choices m) ++ (judgedLine (judgedOf g) ++ (scoredLine (scoredOf g) ++ endLine))) e
+      ∙ sym (ap (λ (g : Reading). judgeOf n g) e)
 
   pub search-good : reading s ≡ good m → searchedLines m (searchedOf (reading s) n) ++ endLine ≡ searchOf n (reading s)
   search-good e = ap (λ (g : Reading). searchedLines m (searchedOf g n) ++ endLine) e ∙ sym (ap (λ (g : Reading). searchOf n g) e)
