@@ -1,22 +1,26 @@
 -- What the commands print by the answers of the operations is what they print by the reading of the book; and each text is short, so that it is kept whole.
-use Prim.Native.Nat.{ℕ, suc, _≤_}
+use Prim.Native.Nat.{ℕ, _≤_}
 use mathlib.Core.Path.{_≡_, sym, ap, _∙_}
 use mathlib.Core.Bool.{Bool, true, false}
-use mathlib.Core.List.{List, [], _∷_, _++_, map}
+use mathlib.Core.List.{List, [], _∷_, _++_}
 use native.Mathlib.Omega.{arith}
 use lib.ListN.{length, take, length-append}
 use Rattle.book.specs.declared.Book.{Book}
 use Rattle.book.specs.declared.choice.Movables.{Movables}
 use Rattle.book.specs.declared.write.Written.{Written}
 use Rattle.book.specs.declared.write.Written.the-variants as written
-use Rattle.book.specs.Book.{RouteBook, mostWithAlternatives, count}
+use Rattle.book.specs.Book.{RouteBook, wellFormed}
 use Rattle.book.specs.Format.{Reading, reading, good, refused}
-use Rattle.book.specs.Memory.{padded}
-use Rattle.book.specs.Choice.{owners, movableFrom, product, sizes, digits, routeBy, choices, chosen}
+use Rattle.book.specs.Choice.{product, sizes, digits, choices, chosen}
 use Rattle.book.specs.Moving.{movablesIn, sizesIn}
-use Rattle.book.specs.Writing.{chosenOf}
-use Rattle.book.proofs.Chosen.{length-rerouted}
-use Rattle.book.proofs.Written.{total-is}
+use Rattle.book.specs.Writing.{chosenOf, writing, writtenOf, writtenNumber, writtenLength, buffer}
+use Rattle.book.proofs.Readers.{Bytes}
+use Rattle.book.proofs.Unique.{refused-within}
+use Rattle.book.proofs.Format.{reading-only}
+use Rattle.book.proofs.Choices.{choices-some}
+use Rattle.book.proofs.Chosen.{choice-fits, chosen-sizes, chosen-none}
+use Rattle.book.proofs.Written.{total-is, such-a-choice}
+use Rattle.book.proofs.ReadBack.{Denied, at-fault, no-choice, no-room, number-served, number-denied, room-enough}
 use Rattle.judgement.specs.Judgement.{verdict, scoreF, scoreFc}
 use Rattle.judgement.specs.Answers.{judgedOf, scoredOf, askedOf}
 use Rattle.judgement.specs.declared.Asked.{Asked}
@@ -25,7 +29,8 @@ use Rattle.search.specs.Search.{finding}
 use Rattle.search.specs.Answers.{searchedOf}
 use Rattle.listing.specs.Text.{textOf}
 use Rattle.listing.specs.Report.{wordBOOK, wordSCORE, bookLine, verdictLine, scoreLine, findingLine, movesOf, endLine}
-use Rattle.listing.specs.Commands.{wordCHOICE, wordCHOICES, wordJOINED, wordPARTED, wordWRITTEN, choiceLine, judgeOf, joinedLine, openOf, searchOf, choicesLine, readOf, writtenLine, writeOf}
+use Rattle.listing.specs.Commands.{wordCHOICE, wordCHOICES, wordJOINED, wordPARTED, wordWRITTEN, choiceLine, joinedLine, choicesLine, writtenLine}
+use Rattle.listing.specs.Commands.{judgeOf, openOf, searchOf, readOf, writeOf}
 use Rattle.listing.specs.Inside.{Holds, judgedLine, scoredLine, searchedLines, choiceLines}
 use Rattle.listing.specs.declared.text.Text.{Text}
 use Rattle.listing.proofs.Texts.{text-whole}
@@ -38,17 +43,39 @@ total-of m h e p = p ∙ ap (λ (w : Movables). product (sizesIn w)) e ∙ total
 module _ (m : RouteBook) (s : List ℕ) (n : ℕ) where
   pub judge-good : chosenOf (reading s) n ≡ good m → choiceLines n m s ≡ judgeOf n (chosenOf (reading s) n)
   judge-good e =
-      ap (λ (g : Reading). choiceLine n (choices m) ++ (judgedLine (judgedOf g) ++ (scoredLine (scoredOf g) ++ endLine))) e ∙ sym (ap (λ (g : Reading). judgeOf n g) e)
+      ap (λ (g : Reading). choiceLine n (choices m) ++ (judgedLine (judgedOf g) ++ (scoredLine (scoredOf g) ++ endLine))) e
+      ∙ sym (ap (λ (g : Reading). judgeOf n g) e)
 
   pub search-good : reading s ≡ good m → searchedLines m (searchedOf (reading s) n) ++ endLine ≡ searchOf n (reading s)
   search-good e = ap (λ (g : Reading). searchedLines m (searchedOf g n) ++ endLine) e ∙ sym (ap (λ (g : Reading). searchOf n g) e)
 
 -- the chosen book has as many choices as the book: T is the book's
 pub choices-kept : (m : RouteBook) (n : ℕ) → choices (chosen m n) ≡ choices m
-choices-kept m n =
-    ap
-    (λ (l : ℕ). product (map suc (padded mostWithAlternatives (map (λ k. count k (owners m)) (movableFrom (owners m) 0 l)))))
-    (length-rerouted (routeBy m (digits (sizes m) n)) 0 (m .lightpaths))
+choices-kept m n = ap product (chosen-sizes m (digits (sizes m) n))
+
+-- WRITTEN AND ASKED AGAIN: r is the answer of `write` for choice n of the bytes s, and x the buffer `out` afterwards
+module _ (s : List ℕ) (n : ℕ) (out : List ℕ) (r : Written) (x : List ℕ) (h : Bytes s)
+    (met : (r ≡ writtenOf (writing s n (length out))) × (x ≡ buffer (writing s n (length out)) out)) where
+  -- reading choice 0 of what was written is reading choice n, so every command says the same of both
+  pub written-same : writtenNumber r ≡ 0 → chosenOf (reading (take (writtenLength r) x)) 0 ≡ chosenOf (reading s) n
+  written-same z =
+      let b = number-served s n out r x h met z in
+      let m = b .book in
+      let c = chosen m n in
+      let fits : wellFormed c ≡ true = choice-fits m n (reading-only s m h (b .reads) .1) in
+      ap (λ (g : Reading). chosenOf g 0) (b .back)
+      ∙ such-a-choice c 0 (choices-some c fits)
+      ∙ ap good (chosen-none c)
+      ∙ sym (ap (λ (g : Reading). chosenOf g n) (b .reads) ∙ such-a-choice m n (b .below))
+
+  -- a buffer of 4,096 bytes is never too short
+  pub never-eleven : length out ≡ 4096 → writtenNumber r ≡ 11 → ⊥
+  never-eleven l e = go (number-denied s n out r x h met (λ z. omega (arith, z, e)) .0) e
+    where
+      go : {k p : ℕ} → Denied s n (length out) k p → k ≡ 11 → ⊥
+      go (at-fault q) u = omega (arith, refused-within s _ _ h q .1)
+      go (no-choice m q g) u = omega arith
+      go (no-room m q g f) u = omega (arith, f, room-enough m n (reading-only s m h q .1))
 
 -- EACH TEXT IS SHORT: no longer than a FOUND with eight moves
 pub judge-short : (n : ℕ) (g : Reading) → length (judgeOf n g) ≤ 428

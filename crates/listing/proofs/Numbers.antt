@@ -119,22 +119,28 @@ value Empty = 0
 value NotDigits = 0
 value TooGreat = 0
 
-number-only : (w : List ℕ) (n : ℕ) → parsed w ≡ Number n → (0 < length w) × (allDigits w ≡ true) × (worth 10 w ≡ n) × (n < 2 ^ 32)
+-- the word w is the number n
+abbrev pub Writes : List ℕ → ℕ → Type 0
+Writes w n = (0 < length w) × (allDigits w ≡ true) × (worth 10 w ≡ n) × (n < 2 ^ 32)
+
+number-only : (w : List ℕ) (n : ℕ) → parsed w ≡ Number n → Writes w n
 number-only [] n e = absurd (false≢true (ap isNumber e))
 number-only (c ∷ cs) n e = go (allDigits (c ∷ cs)) refl (fits32 (worth 10 (c ∷ cs))) refl e
   where
-    go : (a : Bool) → allDigits (c ∷ cs) ≡ a → (f : Bool) → fits32 (worth 10 (c ∷ cs)) ≡ f → cond a (cond f (Number (worth 10 (c ∷ cs))) TooGreat) NotDigits ≡ Number n
-        → (0 < length (c ∷ cs)) × (allDigits (c ∷ cs) ≡ true) × (worth 10 (c ∷ cs) ≡ n) × (n < 2 ^ 32)
+    go : (a : Bool) → allDigits (c ∷ cs) ≡ a → (f : Bool) → fits32 (worth 10 (c ∷ cs)) ≡ f
+        → cond a (cond f (Number (worth 10 (c ∷ cs))) TooGreat) NotDigits ≡ Number n → Writes (c ∷ cs) n
     go true p true q z = (omega arith, p, ap value z, omega (arith, ap value z, ltb-true (worth 10 (c ∷ cs)) 4294967296 q))
     go true p false q z = absurd (false≢true (ap isNumber z))
     go false p f q z = absurd (false≢true (ap isNumber z))
 
-number-back : (w : List ℕ) (n : ℕ) → (0 < length w) × (allDigits w ≡ true) × (worth 10 w ≡ n) × (n < 2 ^ 32) → parsed w ≡ Number n
+number-back : (w : List ℕ) (n : ℕ) → Writes w n → parsed w ≡ Number n
 number-back [] n h = absurd (omega (arith, h .0))
 number-back (c ∷ cs) n h =
-    ap (λ (a : Bool). cond a (fitted (worth 10 (c ∷ cs))) NotDigits) (h .1) ∙ ap fitted (h .2) ∙ ap (λ (f : Bool). cond f (Number n) TooGreat) (lt-ltb n 4294967296 (h .3))
+    ap (λ (a : Bool). cond a (fitted (worth 10 (c ∷ cs))) NotDigits) (h .1)
+    ∙ ap fitted (h .2)
+    ∙ ap (λ (f : Bool). cond f (Number n) TooGreat) (lt-ltb n 4294967296 (h .3))
 
-pub number-exact : (w : List ℕ) (n : ℕ) → (parsed w ≡ Number n) ↔ ((0 < length w) × (allDigits w ≡ true) × (worth 10 w ≡ n) × (n < 2 ^ 32))
+pub number-exact : (w : List ℕ) (n : ℕ) → (parsed w ≡ Number n) ↔ Writes w n
 number-exact w n = (number-only w n, number-back w n)
 
 -- and a number as it is printed is that number when it is typed

@@ -1,6 +1,6 @@
 -- The report by the answers of the operations is the report on the book: choice 0 of a well-formed book is there to be judged and scored, and the book's own
 -- bytes are searched.
-use mathlib.Core.Path.{_≡_, ap, _∙_}
+use mathlib.Core.Path.{_≡_, sym, ap, _∙_}
 use mathlib.Core.Bool.{Bool, true, false, cond}
 use mathlib.Core.List.{List, [], _∷_, _++_}
 use Prim.Native.Nat.{ℕ, zero, suc, _+_, _*_, _≤_}
@@ -12,7 +12,11 @@ use Rattle.book.specs.Book.{RouteBook, wellFormed}
 use Rattle.book.specs.Format.{Reading, reading, good, refused}
 use Rattle.book.specs.Choice.{movable, sizes, digits, choices, chosen}
 use Rattle.book.specs.Writing.{chosenOf}
+use Rattle.book.specs.Memory.{shown}
+use Rattle.book.specs.declared.Reply.{Reply}
+use Rattle.book.specs.declared.Answer.the-variants.{Refused}
 use Rattle.book.proofs.Choices.{choices-some}
+use Rattle.book.proofs.Written.{reply-refused}
 use Rattle.judgement.specs.Judgement.{verdict, scoreF, scoreFc}
 use Rattle.judgement.specs.Answers.{judgedOf, scoredOf}
 use Rattle.judgement.specs.declared.Verdict.{Verdict}
@@ -22,11 +26,17 @@ use Rattle.search.specs.Answers.{searchedOf}
 use Rattle.search.specs.declared.Finding.{Finding}
 use Rattle.search.specs.declared.Finding.the-variants.{Found, None, More}
 use Rattle.listing.specs.Text.{decimal, hex, textOf}
-use Rattle.listing.specs.Report.{wordBOOK, wordOVER, wordSPLIT, wordCUT, wordSCORE, wordFOUND, wordNONE, wordMORE, wordMOVE, wordBAD, numbers, line, sideLine, bookLine, verdictLine, scoreLine, findingLine, moveLine, moveLines, movesOf, endLine, badLine, badText, reportLimit, reportOf}
+use Rattle.listing.specs.Report.{wordBOOK, wordOVER, wordSPLIT, wordCUT, wordSCORE, wordFOUND, wordNONE, wordMORE, wordMOVE, wordBAD, numbers, line, sideLine}
+use Rattle.listing.specs.Report.{bookLine, verdictLine, scoreLine, findingLine, moveLine, moveLines, movesOf, endLine, badLine, badText, reportLimit, reportOf}
 use Rattle.listing.specs.Inside.{judgedLine, scoredLine, searchedLines, goodLines}
 use Rattle.listing.specs.declared.text.Text.{Text}
 use Rattle.listing.proofs.Texts.{text-whole}
 use Rattle.listing.proofs.Spelling.{spelled-long, decimal-short}
+
+-- a refusal's text is the text of a reading that is refused, whatever is printed of it
+module _ (f : Reading → List ℕ) (s : List ℕ) (r : Reply) {k p : ℕ} where
+  pub refused-text : r ≡ shown (reading s) → r .answer ≡ Refused k p → textOf (f (refused k p)) ≡ textOf (f (reading s))
+  refused-text e a = ap (λ (g : Reading). textOf (f g)) (sym (reply-refused s r k p e a))
 
 module _ (m : RouteBook) (fits : wellFormed m ≡ true) where
   first-choice : chosenOf (good m) 0 ≡ good (chosen m 0)

@@ -2,7 +2,6 @@
 use Prim.Native.Nat.{ℕ}
 use mathlib.Core.Bool.{Bool, cond}
 use mathlib.Core.List.{List, [], _∷_, _++_}
-use Rattle.book.specs.Book.{RouteBook}
 use Rattle.book.specs.Format.{Reading, good, refused}
 use Rattle.book.specs.Choice.{choices}
 use Rattle.book.specs.declared.write.Written.{Written}

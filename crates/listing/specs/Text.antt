@@ -32,7 +32,7 @@ decimal n = spelled 10 (width n) n
 abbrev pub hex : ℕ → List ℕ
 hex n = spelled 16 16 n
 
--- what digits are worth, read in a base: this says that `decimal` and `hex` are what they should be, and stands in no contract
+-- what digits are worth, read in a base: by this `decimal` and `hex` are what they should be, and by this a number is read that was typed
 abbrev pub digitOf : ℕ → ℕ
 digitOf c = cond (ltb c 58) (c - 48) (c - 87)
 

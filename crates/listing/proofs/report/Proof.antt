@@ -4,10 +4,10 @@ use native.Mathlib.Omega.{arith}
 use denote.Ref.{now}
 use Rattle.book.specs.Format.{Reading}
 use Rattle.book.proofs.Stages.{all-bytes}
-use Rattle.book.proofs.Written.{reply-read, reply-refused}
+use Rattle.book.proofs.Written.{GoodRead, reply-read}
 use Rattle.listing.specs.Text.{textOf}
 use Rattle.listing.specs.Report.{reportOf}
-use Rattle.listing.proofs.Reports.{report-good}
+use Rattle.listing.proofs.Reports.{refused-text, report-good}
 use borrow.Author.Needs.{needs}
 use Rattle.listing.proofs.report.Statement.{statement}
 use Rattle.listing.proofs.report.Tie as tie
@@ -27,16 +27,26 @@ enum-known-answer c = search needs
 bad-text-requires : tie.Need-bad-text-requires
 bad-text-requires c κs = search needs
 
+-- where the answer of `read` is `Good`, the struct holds the book
+good-one : (c : tie.After-enum-told) → GoodRead (now (c .before .before .before .before .before .args .s)) (c .before .before .before .read .result .book)
+good-one c =
+    let r = c .before .before .before .read in
+    let known = c .before .before .before .before in
+    let s = now (known .before .args .s) in
+    reply-read s (r .result) (all-bytes s (λ i. omega (arith, known .shared-slice-known .given i))) (r .ensures) (c .enum-told .given .1)
+
 returns : tie.Need-returns
 returns c =
     let s = now (c .before .before .before .before .before .before .args .s) in
-    let r = c .before .before .before .before .read in
-    let g = reply-read s (r .result) (all-bytes s (λ i. omega (arith, c .before .before .before .before .before .shared-slice-known .given i))) (r .ensures) (c .before .enum-told .given .1) in
+    let g = good-one (c .before) in
     c .good-report .ensures (g .book) (record { is = g .is .held; fits = g .is .fits })
     ∙ ap textOf (report-good (g .book) (g .is .fits) s (g .reads) ∙ sym (ap (λ (x : Reading). reportOf x) (g .reads)))
 
 returns-2 : tie.Need-returns-2
-returns-2 c = c .bad-text .ensures ∙ ap (λ (x : Reading). textOf (reportOf x)) (sym (reply-refused (now (c .before .before .before .before .before .before .before .args .s)) (c .before .before .before .before .before .read .result) _ _ (c .before .before .before .before .before .read .ensures) (c .before .before .answer .given .1)))
+returns-2 c =
+    let r = c .before .before .before .before .before .read in
+    let s = now (c .before .before .before .before .before .before .before .args .s) in
+    c .bad-text .ensures ∙ refused-text reportOf s (r .result) (r .ensures) (c .before .before .answer .given .1)
 
 pub report-spec : {M : Type 1} → statement M
 report-spec =

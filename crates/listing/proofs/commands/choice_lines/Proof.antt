@@ -31,8 +31,12 @@ end-line-requires c κs = search needs
 
 returns : tie.Need-returns
 returns c = λ m h.
-    let all = total-of m h (c .before .before .before .before .before .before .of .ensures) (c .before .before .before .before .before .total .ensures) in
-    (adds-then (adds-as (ap (choiceLine (c .before .before .before .before .before .before .before .before .args .n)) all) (c .before .before .before .choice-line .ensures)) (adds-then (c .before .before .judged-line .ensures) (adds-then (c .before .scored-line .ensures) (c .end-line .ensures)))) .shows [] (c .before .before .before .before .none .ensures)
+    let made = c .before .before .before .before .before in
+    let n = made .before .before .before .args .n in
+    let all = total-of m h (made .before .of .ensures) (made .total .ensures) in
+    let which = adds-as (ap (choiceLine n) all) (c .before .before .before .choice-line .ensures) in
+    let rest = adds-then (c .before .before .judged-line .ensures) (adds-then (c .before .scored-line .ensures) (c .end-line .ensures)) in
+    adds-then which rest .shows [] (c .before .before .before .before .none .ensures)
 
 pub choice-lines-spec : {M : Type 1} → statement M
 choice-lines-spec =

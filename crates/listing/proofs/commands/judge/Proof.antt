@@ -30,17 +30,19 @@ bad-text-requires c κs = search needs
 
 returns : tie.Need-returns
 returns c =
-    let a = c .before .before .before .before .before .before .args in
-    let s = now (a .s) in
     let r = c .before .before .before .before .choose in
-    let o = opened s (a .n) (all-bytes s (λ i. omega (arith, c .before .before .before .before .before .shared-slice-known .given i))) (r .result) (r .ensures) (c .before .enum-told .given .1) in
+    let known = c .before .before .before .before .before in
+    let a = known .before .args in
+    let s = now (a .s) in
+    let o = opened s (a .n) (all-bytes s (λ i. omega (arith, known .shared-slice-known .given i))) (r .result) (r .ensures) (c .before .enum-told .given .1) in
     c .choice-lines .ensures (o .book) (record { is = o .held; fits = o .fits }) ∙ ap textOf (judge-good (o .book) s (a .n) (o .is))
 
 returns-2 : tie.Need-returns-2
 returns-2 c =
-    let a = c .before .before .before .before .before .before .before .args in
     let r = c .before .before .before .before .before .choose in
-    c .bad-text .ensures ∙ ap (λ (x : Reading). textOf (judgeOf (a .n) x)) (sym (opened-refused (chosenOf (reading (now (a .s))) (a .n)) (r .result) (r .ensures) (c .before .before .answer .given .1)))
+    let a = c .before .before .before .before .before .before .before .args in
+    let bad = opened-refused (chosenOf (reading (now (a .s))) (a .n)) (r .result) (r .ensures) (c .before .before .answer .given .1) in
+    c .bad-text .ensures ∙ ap (λ (x : Reading). textOf (judgeOf (a .n) x)) (sym bad)
 
 pub judge-spec : {M : Type 1} → statement M
 judge-spec =

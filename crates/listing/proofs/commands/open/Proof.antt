@@ -32,11 +32,14 @@ bad-text-requires c κs = search needs
 
 returns : tie.Need-returns
 returns c =
-    (adds-then (c .before .joined-line .ensures) (c .end-line .ensures)) .shows [] (c .before .before .none .ensures)
-    ∙ ap (λ (x : Asked). textOf (openOf x)) (sym (c .before .before .before .before .answer .given .1) ∙ c .before .before .before .before .before .before .ask .ensures)
+    let told = c .before .before .before .before in
+    adds-then (c .before .joined-line .ensures) (c .end-line .ensures) .shows [] (c .before .before .none .ensures)
+    ∙ ap (λ (x : Asked). textOf (openOf x)) (sym (told .answer .given .1) ∙ told .before .before .ask .ensures)
 
 returns-2 : tie.Need-returns-2
-returns-2 c = c .bad-text .ensures ∙ ap (λ (x : Asked). textOf (openOf x)) (sym (c .before .before .answer2 .given .1) ∙ c .before .before .before .before .ask .ensures)
+returns-2 c =
+    let told = c .before .before in
+    c .bad-text .ensures ∙ ap (λ (x : Asked). textOf (openOf x)) (sym (told .answer2 .given .1) ∙ told .before .before .ask .ensures)
 
 pub open-spec : {M : Type 1} → statement M
 open-spec =

@@ -5,11 +5,12 @@ use native.Mathlib.Omega.{arith}
 use denote.Ref.{now}
 use Rattle.book.specs.Format.{Reading}
 use Rattle.book.proofs.Stages.{all-bytes}
-use Rattle.book.proofs.Written.{reply-read, reply-refused}
+use Rattle.book.proofs.Written.{GoodRead, reply-read}
 use Rattle.listing.specs.Text.{textOf}
 use Rattle.listing.specs.Commands.{choicesLine, readOf}
 use Rattle.listing.proofs.Texts.{adds-then, adds-as}
 use Rattle.listing.proofs.Listings.{total-of}
+use Rattle.listing.proofs.Reports.{refused-text}
 use borrow.Author.Needs.{needs}
 use Rattle.listing.proofs.commands.read.Statement.{statement}
 use Rattle.listing.proofs.commands.read.Tie as tie
@@ -44,17 +45,29 @@ enum-known-answer c = search needs
 bad-text-requires : tie.Need-bad-text-requires
 bad-text-requires c κs = search needs
 
+-- where the answer of `read` is `Good`, the struct holds the book
+good-one : (c : tie.After-enum-told) → GoodRead (now (c .before .before .before .before .before .args .s)) (c .before .before .before .read .result .book)
+good-one c =
+    let r = c .before .before .before .read in
+    let known = c .before .before .before .before in
+    let s = now (known .before .args .s) in
+    reply-read s (r .result) (all-bytes s (λ i. omega (arith, known .shared-slice-known .given i))) (r .ensures) (c .enum-told .given .1)
+
 returns : tie.Need-returns
 returns c =
-    let s = now (c .before .before .before .before .before .before .before .before .before .before .before .args .s) in
-    let r = c .before .before .before .before .before .before .before .before .before .read in
-    let g = reply-read s (r .result) (all-bytes s (λ i. omega (arith, c .before .before .before .before .before .before .before .before .before .before .shared-slice-known .given i))) (r .ensures) (c .before .before .before .before .before .before .enum-told .given .1) in
-    let all = total-of (g .book) (record { is = g .is .held; fits = g .is .fits }) (c .before .before .before .before .before .of .ensures) (c .before .before .before .before .total .ensures) in
-    (adds-then (c .before .before .book-line .ensures (g .book) (g .is .held)) (adds-then (adds-as (ap choicesLine all) (c .before .choices-line .ensures)) (c .end-line .ensures))) .shows [] (c .before .before .before .none .ensures)
+    let made = c .before .before .before .before in
+    let g = good-one (made .before .before) in
+    let all = total-of (g .book) (record { is = g .is .held; fits = g .is .fits }) (made .before .of .ensures) (made .total .ensures) in
+    let counts = c .before .before .book-line .ensures (g .book) (g .is .held) in
+    let choices = adds-as (ap choicesLine all) (c .before .choices-line .ensures) in
+    adds-then counts (adds-then choices (c .end-line .ensures)) .shows [] (c .before .before .before .none .ensures)
     ∙ ap (λ (x : Reading). textOf (readOf x)) (sym (g .reads))
 
 returns-2 : tie.Need-returns-2
-returns-2 c = c .bad-text .ensures ∙ ap (λ (x : Reading). textOf (readOf x)) (sym (reply-refused (now (c .before .before .before .before .before .before .before .args .s)) (c .before .before .before .before .before .read .result) _ _ (c .before .before .before .before .before .read .ensures) (c .before .before .answer .given .1)))
+returns-2 c =
+    let r = c .before .before .before .before .before .read in
+    let s = now (c .before .before .before .before .before .before .before .args .s) in
+    c .bad-text .ensures ∙ refused-text readOf s (r .result) (r .ensures) (c .before .before .answer .given .1)
 
 pub read-spec : {M : Type 1} → statement M
 read-spec =

@@ -20,7 +20,8 @@ end-requires : tie.Need-end-requires
 end-requires c κs = search needs
 
 returns : tie.Need-returns
-returns c = adds-then (c .before .before .before .word .ensures) (adds-then (c .before .before .number .ensures) (adds-then (c .before .number2 .ensures) (c .end .ensures)))
+returns c =
+    adds-then (c .before .before .before .word .ensures) (adds-then (c .before .before .number .ensures) (adds-then (c .before .number2 .ensures) (c .end .ensures)))
 
 pub choice-line-spec : {M : Type 1} → statement M
 choice-line-spec =

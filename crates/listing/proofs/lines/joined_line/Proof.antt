@@ -1,6 +1,5 @@
 -- One word where the side has all stations, and another where it has not.
 use mathlib.Core.Path.{sym, ap}
-use mathlib.Core.Bool.{Bool}
 use Rattle.listing.specs.Commands.{joinedLine}
 use Rattle.listing.proofs.Texts.{adds-then, adds-as}
 use borrow.Author.Needs.{needs}
@@ -20,7 +19,10 @@ end-requires : tie.Need-end-requires
 end-requires c κs = search needs
 
 returns : tie.Need-returns
-returns c = adds-as (ap (joinedLine (c .before .before .before .before .before .args .d)) (sym (c .before .before .before .before .if1 .taken))) (adds-then (c .before .before .word .ensures) (adds-then (c .before .side .ensures) (c .end .ensures)))
+returns c =
+    let test = c .before .before .before .before in
+    adds-as (ap (joinedLine (test .before .args .d)) (sym (test .if1 .taken)))
+    (adds-then (c .before .before .word .ensures) (adds-then (c .before .side .ensures) (c .end .ensures)))
 
 slice-aggregate-word-2 : tie.Need-slice-aggregate-word-2
 slice-aggregate-word-2 c = search needs
@@ -35,7 +37,10 @@ end-requires-2 : tie.Need-end-requires-2
 end-requires-2 c κs = search needs
 
 returns-2 : tie.Need-returns-2
-returns-2 c = adds-as (ap (joinedLine (c .before .before .before .before .before .args .d)) (sym (c .before .before .before .before .if1 .left))) (adds-then (c .before .before .word2 .ensures) (adds-then (c .before .side2 .ensures) (c .end2 .ensures)))
+returns-2 c =
+    let test = c .before .before .before .before in
+    adds-as (ap (joinedLine (test .before .args .d)) (sym (test .if1 .left)))
+    (adds-then (c .before .before .word2 .ensures) (adds-then (c .before .side2 .ensures) (c .end2 .ensures)))
 
 pub joined-line-spec : {M : Type 1} → statement M
 joined-line-spec =

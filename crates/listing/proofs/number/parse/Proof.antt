@@ -35,10 +35,9 @@ loop-less c = search needs
 loop-again : tie.Need-loop-again Inv-loop μ-loop
 loop-again c =
     let w = now (c .before .before .before .before .before .args .word) in
-    let l = c .before .before .before .loop in (
-      search needs,
-      ap (λ (x : Parsed). takenOn x (drop (l .i + 1) w)) (c .with-byte .ensures) ∙ sym (on-next w (l .p) (l .i) (c .before .before .loop-test .taken)) ∙ l .inv .1,
-    )
+    let l = c .before .before .before .loop in
+    let next = sym (on-next w (l .p) (l .i) (c .before .before .loop-test .taken)) in
+    (search needs, ap (λ (x : Parsed). takenOn x (drop (l .i + 1) w)) (c .with-byte .ensures) ∙ next ∙ l .inv .1)
 
 returns : tie.Need-returns Inv-loop μ-loop
 returns c =

@@ -21,7 +21,9 @@ with-value-requires : tie.Need-with-value-requires
 with-value-requires c κs = search needs
 
 returns-2 : tie.Need-returns-2
-returns-2 c = let a = c .before .before .before .args in c .with-value .ensures ∙ sym (by (a .p) (a .c) (digit-is (a .c) (c .before .before .if1 .left) (c .before .if2 .taken)))
+returns-2 c =
+    let a = c .before .before .before .args in
+    c .with-value .ensures ∙ sym (by (a .p) (a .c) (digit-is (a .c) (c .before .before .if1 .left) (c .before .if2 .taken)))
 
 returns-3 : tie.Need-returns-3
 returns-3 c = let a = c .before .before .args in sym (by (a .p) (a .c) (high-is-none (a .c) (c .if2 .left)))
