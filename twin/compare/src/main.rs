@@ -1,10 +1,10 @@
 //! Holds the proved library and the twin against each other over generated books: compare SEED FOLDER books|seconds N. A book on which they differ is
 //! saved in FOLDER, with what differed. The last line counts the books. So many books must bring every kind of answer.
 
-mod face;
 mod holding;
 mod wanted;
 
+use compare::face;
 use holding::{hold, Counts};
 use std::io;
 use std::path::Path;
