@@ -16,8 +16,7 @@ use Rattle.book.specs.Book.{Span, Route, Ends, Lightpath, RouteBook, cou
 use Rattle.book.specs.Choice.{owners, movableFrom, movable, alternativesEach, sizes, valid, noRoute, routesFor, digitFor, routeBy, rerouted, chosenBy}
 use Rattle.book.specs.Bits.{stationSet, spanWord, wordInto}
 use Rattle.book.specs.Memory.{padded, rows, routesOf, bookOf, laid, remade}
-use Rattle.book.specs.Moving.{movablesOf, rowOf, movedRow, moved, withRowsOf, chosenIn}
-use Rattle.book.specs.declared.choice.Rows.{Rows}
+use Rattle.book.specs.Moving.{Rows, movablesOf, rowOf, movedRow, moved, withRowsOf, chosenIn}
 use Rattle.book.proofs.Padded.{padded-long}
 use Rattle.book.proofs.Listed.{routeOfAlternative, lower, lower-none, lower-next, lower-most, listed-at}
 use Rattle.book.proofs.Rows.{rows-full, row-places}

@@ -11,7 +11,6 @@ use Rattle.book.specs.Choice.{movable, alternativesEach, digits}
 use Rattle.book.specs.declared.Book.{Book}
 use Rattle.book.specs.declared.choice.Movables.{Movables}
 use Rattle.book.specs.declared.choice.Choice.{Choice}
-use Rattle.book.specs.declared.choice.Rows.{Rows}
 
 -- B64: the movable lightpaths of a book
 abbrev pub movablesOf : RouteBook → Movables
@@ -55,6 +54,13 @@ choiceIn w n = record { digits = digits (sizesIn w) n }
 -- the rows from `first` on
 abbrev pub rowOf : ℕ → ℕ → ℕ → ℕ
 rowOf k first d = min (cond (eqb d 0) k (first + d - 1)) (mostRoutes - 1)
+
+-- the routes of a book, as it holds them
+pub record Rows : Type 0 where
+  pub len : List ℕ
+  pub route : List ℕ
+  pub low : List ℕ
+  pub high : List ℕ
 
 abbrev pub movedRow : Rows → Rows → ℕ → ℕ → Rows
 movedRow listed r to from = record {

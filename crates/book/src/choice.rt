@@ -13,7 +13,7 @@ ghost use Rattle.book.specs.Book.{RouteBook, mostForOne, wellFormed};
 ghost use Rattle.book.specs.Format.{good, reading};
 ghost use Rattle.book.specs.Memory.{bookOf, shown};
 ghost use Rattle.book.specs.Choice.{product, number, stepped};
-ghost use Rattle.book.specs.Moving.{lastIs, withMore, withNew, withOne, movablesIn, sizesIn, choiceIn, rowOf, movedRow, rowsIn, withRowsOf, chosenIn};
+ghost use Rattle.book.specs.Moving.{lastIs, withMore, withNew, withOne, movablesIn, sizesIn, choiceIn, rowOf, chosenIn};
 ghost use Rattle.book.specs.Writing.{chosenOf};
 ghost use Rattle.book.specs.Inside.{Held};
 
@@ -211,60 +211,6 @@ impl Choice {
     }
 }
 
-// The routes of a book, as it holds them.
-struct Rows {
-    len: [u8; 152],
-    route: [u8; 2432],
-    low: [u64; 152],
-    high: [u64; 152],
-}
-
-impl Rows {
-    // The routes of a book.
-    fn of(b: Book) -> Rows
-        ensures { λ r. ⌜ r ≡ rowsIn b ⌝ }
-    {
-        let len = b.len;
-        let route = b.route;
-        let low = b.low;
-        let high = b.high;
-        Rows {
-            len: len,
-            route: route,
-            low: low,
-            high: high,
-        }
-    }
-
-    // A book with these routes in place of its own.
-    fn in_book(self, b: Book) -> Book
-        ensures { λ r. ⌜ r ≡ withRowsOf b self ⌝ }
-    {
-        let len = self.len;
-        let route = self.route;
-        let low = self.low;
-        let high = self.high;
-        fill::with_rows(b, len, route, low, high)
-    }
-
-    // With row `to` replaced by row `from` of the routes listed.
-    fn moved(self, listed: Rows, to: usize, from: usize) -> Rows
-        requires { ⌜ (to < 96) × (from < 152) ⌝ }
-        ensures { λ r. ⌜ r ≡ movedRow listed self to from ⌝ }
-    {
-        let rows = listed.route;
-        let mut route = self.route;
-        let start = 16 * from;
-        copy::put(&mut route, 16 * to, &rows[start..start + 16]);
-        let mut r = self;
-        r.len[to] = listed.len[from];
-        r.low[to] = listed.low[from];
-        r.high[to] = listed.high[from];
-        r.route = route;
-        r
-    }
-}
-
 // The book with each movable lightpath on the route that its digit gives it.
 pub fn chosen(b: Book, w: Movables, c: Choice) -> Book
     ensures { λ r. ⌜ r ≡ chosenIn b w c ⌝ }
@@ -273,19 +219,26 @@ pub fn chosen(b: Book, w: Movables, c: Choice) -> Book
     let more = w.more;
     let digits = c.digits;
     let n = at_most(w.count as usize, 8);
-    let listed = Rows::of(b);
-    let mut r = listed;
+    let rows = b.route;
+    let mut len = b.len;
+    let mut route = b.route;
+    let mut low = b.low;
+    let mut high = b.high;
     let mut first = b.lightpaths as usize;
     let mut i = 0;
     while i < n {
         let k = lightpath[i] as usize;
         let to = at_most(k, 95);
         let from = row_of(to, first, digits[i] as usize);
-        r = r.moved(listed, to, from);
+        let start = 16 * from;
+        copy::put(&mut route, 16 * to, &rows[start..start + 16]);
+        len[to] = b.len[from];
+        low[to] = b.low[from];
+        high[to] = b.high[from];
         first += more[i] as usize;
         i += 1;
     }
-    r.in_book(b)
+    fill::with_rows(b, len, route, low, high)
 }
 
 // Reads choice n of the good book b: the book that it makes, or 12 where there is no such choice.
