@@ -15,6 +15,7 @@ use Rattle.book.specs.Bits.{has, bit, put}
 use Rattle.book.proofs.Bits.{bit-iff, bit-ext, has-true, true-has, bit-one, bit-other, put-same, put-keeps, put-inv, put-lt, put-le}
 use Rattle.book.proofs.Tests.{and-inv}
 use Rattle.judgement.specs.Network.{Network, Link, Joined, start, more, brought, grown, swept, settled, sideOf}
+use Rattle.judgement.specs.Inside.{Grows, none, by}
 
 or-l : {a : Bool} (b : Bool) → a ≡ true → (a || b) ≡ true
 or-l b e = ap (λ (q : Bool). q || b) e
@@ -86,7 +87,7 @@ module _ (net : Network) (up : ℕ → Bool) where
   joined-in m s cl hs i start = hs
   joined-in m s cl hs i (more {x} {y} j l) = cl x y l (joined-in m s cl hs x j)
 
-  -- a swept adds only what is joined
+  -- growing adds only what is joined
   abbrev pub Only : ℕ → ℕ → Type 0
   Only s m = (i : ℕ) → bit m i ≡ 1 → Joined net up s i
 
@@ -112,22 +113,23 @@ module _ (net : Network) (up : ℕ → Bool) where
       go true e h = let u = and-inv {a = up k} e in out (ends (u .0) (or-inv _ _ (u .1))) (put-inv (put m a) b i h)
       go false e h = o i h
 
-  sweep-only : (s n m : ℕ) → n ≤ net .count → Only s m → Only s (swept net up n m)
-  unfolding swept
-  sweep-only s zero m l o = o
-  sweep-only s (suc n) m l o = grow-only s n _ l (sweep-only s n m (omega arith) o)
-
-  sweep-kept : (n m i : ℕ) → bit m i ≡ 1 → bit (swept net up n m) i ≡ 1
-  unfolding swept grown
-  sweep-kept zero m i b = b
-  sweep-kept (suc n) m i b = go (up n && (has x (net .from n) || has x (net .to n))) (sweep-kept n m i b)
+  grow-kept : (k m i : ℕ) → bit m i ≡ 1 → bit (grown net up k m) i ≡ 1
+  unfolding grown
+  grow-kept k m i h = go (up k && (has m (net .from k) || has m (net .to k)))
     where
-      x : ℕ
-      x = swept net up n m
+      go : (t : Bool) → bit (cond t (put (put m (net .from k)) (net .to k)) m) i ≡ 1
+      go true = put-keeps _ _ i (put-keeps m (net .from k) i h)
+      go false = h
 
-      go : (t : Bool) → bit x i ≡ 1 → bit (cond t (put (put x (net .from n)) (net .to n)) x) i ≡ 1
-      go true h = put-keeps _ _ i (put-keeps x (net .from n) i h)
-      go false h = h
+  -- a sweep is one way to grow
+  sweep-grows : (n m : ℕ) → n ≤ net .count → Grows net up m (swept net up n m)
+  unfolding swept
+  sweep-grows zero m l = none
+  sweep-grows (suc n) m l = by (sweep-grows n m (omega arith)) n l
+
+  grows-le : {m r : ℕ} → Grows net up m r → m ≤ r
+  grows-le none = le-refl _
+  grows-le (by g k l) = le-trans (grows-le g) (grow-le k _)
 
   -- what holds of a set that grows from s: it is below the width, holds s, and only what is joined to s
   pub record Growing (W s r : ℕ) : Type 0 where
@@ -145,11 +147,6 @@ module _ (net : Network) (up : ℕ → Bool) where
         go true = put-lt W _ _ (put-lt W m _ h (ends k l .0)) (ends k l .1)
         go false = h
 
-    pub sweep-lt : (n m : ℕ) → n ≤ net .count → m < 2 ^ W → swept net up n m < 2 ^ W
-    unfolding swept
-    sweep-lt zero m l h = h
-    sweep-lt (suc n) m l h = grow-lt n _ l (sweep-lt n m (omega arith) h)
-
     pub growing-start : (s : ℕ) → s < W → Growing W s (2 ^ s)
     growing-start s l = record {
       low = pow-lt l;
@@ -157,16 +154,25 @@ module _ (net : Network) (up : ℕ → Bool) where
       kept = bit-one s;
     }
 
+    growing-on : (s : ℕ) {m r : ℕ} → Growing W s m → Grows net up m r → Growing W s r
+    growing-on s g none = g
+    growing-on s g (by {r} h k l) =
+        let now = growing-on s g h in
+        record { low = grow-lt k r l (now .low); only = grow-only s k r l (now .only); kept = grow-kept k r s (now .kept) }
+
     pub growing-sweep : (s m : ℕ) → Growing W s m → Growing W s (swept net up (net .count) m)
-    growing-sweep s m g = record {
-      low = sweep-lt (net .count) m (le-refl _) (g .low);
-      only = sweep-only s (net .count) m (le-refl _) (g .only);
-      kept = sweep-kept (net .count) m s (g .kept);
-    }
+    growing-sweep s m g = growing-on s g (sweep-grows (net .count) m (le-refl _))
 
     -- each swept that adds makes the number larger
-    pub sweep-more : (m : ℕ) → (swept net up (net .count) m ≡ m → ⊥) → m < swept net up (net .count) m
+    sweep-more : (m : ℕ) → (swept net up (net .count) m ≡ m → ⊥) → m < swept net up (net .count) m
     sweep-more m ne = omega (arith, sweep-le (net .count) m)
+
+    -- one turn: a sweep that adds, and then whatever grows from that
+    pub turn-more : (m : ℕ) {r : ℕ} → (swept net up (net .count) m ≡ m → ⊥) → Grows net up (swept net up (net .count) m) r → m < r
+    turn-more m ne g = omega (arith, sweep-more m ne, grows-le g)
+
+    pub turn-on : (s m : ℕ) {r : ℕ} → Growing W s m → Grows net up (swept net up (net .count) m) r → Growing W s r
+    turn-on s m g h = growing-on s (growing-sweep s m g) h
 
     -- a set that has grown to the end holds just what is joined to s; there is one such set
     pub grown-joined : (s r : ℕ) → Growing W s r → swept net up (net .count) r ≡ r → (i : ℕ) → (bit r i ≡ 1) ↔ Joined net up s i
@@ -200,6 +206,10 @@ module _ (net : Network) (up : ℕ → Bool) where
 
     pub side-joined : (s : ℕ) → s < W → (i : ℕ) → (bit (sideOf net up W s) i ≡ 1) ↔ Joined net up s i
     side-joined s l = let g = side-grown s l in grown-joined s _ (g .0) (g .1)
+
+    -- whatever has grown is in it
+    pub in-side : (s r i : ℕ) → s < W → Growing W s r → has r i ≡ true → has (sideOf net up W s) i ≡ true
+    in-side s r i l g h = has-true _ i (side-joined s l i .1 (g .only i (true-has r i h)))
 
     -- whatever has grown to the end is that side
     pub side-is : (s r : ℕ) → s < W → Growing W s r → swept net up (net .count) r ≡ r → r ≡ sideOf net up W s

@@ -88,7 +88,7 @@ module _ (b : Book) where
         go (no q) = omega (arith, List·getD-eq-default loads 0 {n = x} (omega (arith, now .long)))
 
     pub tallied-room : b .lightpaths ≤ 96 → Room loads (rowIn b k)
-    tallied-room few = record { short = row-short b k; few = λ x. omega (arith, tallied-most x, now .few) }
+    tallied-room few = record { long = now .long; short = row-short b k; few = λ x. omega (arith, tallied-most x, now .few) }
 
     pub tallied-done : b .lightpaths ≤ k → Loads b loads
     tallied-done l = record {

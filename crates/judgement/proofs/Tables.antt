@@ -10,8 +10,12 @@ use native.Mathlib.Omega.{arith}
 use lib.ListN.{length, getD, set, replicate, length-set, length-replicate, getD-replicate, List·getD-eq-default}
 use lib.Seq.{getD-set-same, getD-set-other}
 use Rattle.judgement.specs.Network.{sideOf}
-use Rattle.judgement.specs.Inside.{netOf, upOf, upTable}
+use Rattle.judgement.specs.Inside.{netOf, upOf, Fits, upTable}
 use Rattle.judgement.proofs.Alike.{side-alike}
+
+-- the ends of lightpaths in arrays that fit
+pub ends : {n : ℕ} {from to : List ℕ} → Fits n from to → (k : ℕ) → k < n → (getD from k 0 < 64) × (getD to k 0 < 64)
+ends h k l = (h .from-low k, h .to-low k)
 
 module _ (t : ℕ → Bool) where
   -- no place yet, and one place more

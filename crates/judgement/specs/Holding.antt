@@ -19,8 +19,9 @@ pub record Held (b : Book) : Type 0 where
 pub record Usable (b : Book) : Type 0 where
   pub is : usable b ≡ true
 
--- a route can be counted into these loads: it is no longer than a route can be, and no load is more than all places of all routes
+-- a route can be counted into these loads, one for each span: it is no longer than a route can be, and no load is more than all places of all routes
 pub record Room (loads route : List ℕ) : Type 0 where
+  pub long : length loads ≡ mostSpans
   pub short : length route ≤ longestRoute
   pub few : (x : ℕ) → getD loads x 0 ≤ longestRoute * mostLightpaths
 

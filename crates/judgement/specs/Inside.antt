@@ -9,7 +9,7 @@ use lib.Dec.{eqb}
 use Rattle.book.specs.declared.Book.{Book}
 use Rattle.judgement.specs.declared.kind.Parted.{Parted}
 use Rattle.judgement.specs.declared.kind.Parted.the-variants.{At}
-use Rattle.judgement.specs.Network.{Network, sideOf}
+use Rattle.judgement.specs.Network.{Network, grown, sideOf}
 use Rattle.judgement.specs.Judgement.{sum, one}
 
 -- the network of n lightpaths whose ends stand in two arrays, and which of them are up by a third
@@ -26,6 +26,11 @@ pub record Fits (n : ℕ) (from to : List ℕ) : Type 0 where
   pub to-long : length to ≡ 96
   pub from-low : (k : ℕ) → getD from k 0 < 64
   pub to-low : (k : ℕ) → getD to k 0 < 64
+
+-- what becomes of the set m by some lightpaths, one after the other in any order
+pub data Grows (net : Network) (up : ℕ → Bool) (m : ℕ) : ℕ → Type 0 where
+  none : Grows net up m m
+  by : {r : ℕ} → Grows net up m r → (k : ℕ) → k < net .count → Grows net up m (grown net up k r)
 
 -- the first n of 96 places by a test, and false beyond
 unfoldable pub upTable : (ℕ → Bool) → ℕ → List Bool

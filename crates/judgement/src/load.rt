@@ -17,21 +17,19 @@ pub(crate) enum Overload {
     Nowhere,
 }
 
-// The loads with one route more; a number that no span has is passed over.
-fn add_route(loads: [u16; 128], route: &[u8]) -> [u16; 128]
-    requires { ⌜ Room loads (now route) ⌝ }
-    ensures { λ r. ⌜ Counted loads (now (route .entry)) r ⌝ }
+// Counts one route more into the loads; a number that no span has is passed over.
+fn add_route(loads: &mut [u16; 128], route: &[u8])
+    requires { ⌜ Room (now loads) (now route) ⌝ }
+    ensures { λ r. ⌜ Counted (now (loads .entry)) (now (route .entry)) (now (loads .exit)) ⌝ }
 {
-    let mut l = loads;
     let mut j = 0;
     while j < route.len() {
         let x = route[j] as usize;
         if x < 128 {
-            l[x] = l[x] + 1;
+            loads[x] = loads[x] + 1;
         }
         j += 1;
     }
-    l
 }
 
 // How many places of a row are the route.
@@ -53,8 +51,7 @@ pub(crate) fn loads_of(b: Book) -> [u16; 128]
     while k < n {
         let start = 16 * k;
         let end = start + row_len(b.len[k]);
-        let next = add_route(loads, &rows[start..end]);
-        loads = next;
+        add_route(&mut loads, &rows[start..end]);
         k += 1;
     }
     loads

@@ -2,7 +2,7 @@
 use crate::Scored;
 use crate::load;
 use crate::side;
-use crate::side::side_of;
+use crate::side::joined;
 use crate::side::up_without;
 use book::Book;
 ghost use mathlib.Core.Path.{_≡_};
@@ -25,8 +25,11 @@ fn apart_at<'a>(from: &'a [u8; 96], to: &'a [u8; 96], up: &'a [bool; 96], n: usi
     if up[k] {
         return 0;
     }
-    let side = side_of(from[k], from, to, up, n);
-    if side.has(to[k]) { 0 } else { 1 }
+    if joined(from[k], to[k], from, to, up, n) {
+        0
+    } else {
+        1
+    }
 }
 
 // How many of the first n lightpaths hold the bit in their word, a set of spans, and have ends that are not joined when those lightpaths are out.

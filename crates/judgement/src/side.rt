@@ -6,7 +6,7 @@ ghost use lib.ListN.{length};
 ghost use lib.Count.{trailingZeros};
 ghost use Rattle.book.specs.Bits.{has, put};
 ghost use Rattle.judgement.specs.Network.{brought, swept, sideOf};
-ghost use Rattle.judgement.specs.Inside.{netOf, upOf, Fits, upTable, unset, size};
+ghost use Rattle.judgement.specs.Inside.{netOf, upOf, Fits, Grows, upTable, unset, size};
 
 // A set of numbers below 64, those of the nodes; the same word serves for the spans of a route.
 pub(crate) struct Side {
@@ -93,7 +93,27 @@ pub(crate) fn sweep<'a>(
     grown
 }
 
-// The side of a node: sweeps until one adds nothing.
+// The same from the last lightpath down to the first: what one sweep cannot carry on, since the lightpaths stand against the way, the other can.
+pub(crate) fn sweep_back<'a>(
+    side: Side,
+    from: &'a [u8; 96],
+    to: &'a [u8; 96],
+    up: &'a [bool; 96],
+    n: usize,
+) -> Side
+    requires { ⌜ Fits n (now from) (now to) × (length (now up) ≡ 96) ⌝ }
+    ensures { λ r. ⌜ Grows (netOf n (now (from .entry)) (now (to .entry))) (upOf (now (up .entry))) (side .mask) (r .mask) ⌝ }
+{
+    let mut grown = side;
+    let mut left = n;
+    while left > 0 {
+        left -= 1;
+        grown = grown.bring(from[left], to[left], up[left]);
+    }
+    grown
+}
+
+// The side of a node: sweeps up and back until one adds nothing.
 pub(crate) fn side_of<'a>(
     start: u8,
     from: &'a [u8; 96],
@@ -111,7 +131,33 @@ pub(crate) fn side_of<'a>(
         if next.mask == side.mask {
             return side;
         }
-        side = next;
+        side = sweep_back(next, from, to, up, n);
+    }
+}
+
+// Whether the side of a node holds another: no more of the side is grown than tells it.
+pub(crate) fn joined<'a>(
+    start: u8,
+    end: u8,
+    from: &'a [u8; 96],
+    to: &'a [u8; 96],
+    up: &'a [bool; 96],
+    n: usize,
+) -> bool
+    requires { ⌜ (start < 64) × (end < 64) × Fits n (now from) (now to) × (length (now up) ≡ 96) ⌝ }
+    ensures { λ r. ⌜ r ≡ has (sideOf (netOf n (now (from .entry)) (now (to .entry))) (upOf (now (up .entry))) 64 start) end ⌝ }
+{
+    let none = Side { mask: 0 };
+    let mut side = none.with(start);
+    loop {
+        let next = sweep(side, from, to, up, n);
+        if next.has(end) {
+            return true;
+        }
+        if next.mask == side.mask {
+            return false;
+        }
+        side = sweep_back(next, from, to, up, n);
     }
 }
 

@@ -14,13 +14,13 @@ use Rattle.judgement.proofs.load.add_route.Statement.{statement}
 use Rattle.judgement.proofs.load.add_route.Tie as tie
 
 abbrev Inv-loop : tie.InvT-loop
-Inv-loop route l₀ j₀ l j = (j ≤ length route) × Counted l₀ (take j route) l
+Inv-loop loads₀ route j₀ loads j = (j ≤ length route) × Counted loads₀ (take j route) loads
 
 abbrev μ-loop : tie.MeasureT-loop
-μ-loop route l₀ j₀ l j = length route - j
+μ-loop loads₀ route j₀ loads j = length route - j
 
 loop-holds : tie.Need-loop-holds Inv-loop μ-loop
-loop-holds c = (search needs, counted-start _ (now (c .args .route)) (search needs))
+loop-holds c = (search needs, counted-start _ (now (c .args .route)) (c .pre .long))
 
 shared-slice-read-x : tie.Need-shared-slice-read-x Inv-loop μ-loop
 shared-slice-read-x c = search needs
@@ -28,24 +28,24 @@ shared-slice-read-x c = search needs
 cast-x : tie.Need-cast-x Inv-loop μ-loop
 cast-x c = omega (arith, c .shared-slice-known .given (c .before .before .loop .j))
 
-mul-l : tie.Need-mul-l Inv-loop μ-loop
-mul-l c = search needs
+mul-loads : tie.Need-mul-loads Inv-loop μ-loop
+mul-loads c = search needs
 
-array-read-l : tie.Need-array-read-l Inv-loop μ-loop
-array-read-l c = search needs
+element-copy-out-loads : tie.Need-element-copy-out-loads Inv-loop μ-loop
+element-copy-out-loads c = search needs
 
-add-l : tie.Need-add-l Inv-loop μ-loop
-add-l c =
-    let r = now (c .before .before .before .before .args .route) in
-    let j = c .before .before .before .loop .j in
-    let x = getD r j 0 in
-    omega (arith, c .before .before .before .loop .inv .1 .each x (c .if1 .taken), c .before .before .before .before .pre .few x, count-most x (take j r), length-take j r)
+add-loads : tie.Need-add-loads Inv-loop μ-loop
+add-loads c =
+    let r = now (c .before .before .before .before .before .args .route) in
+    let l = c .before .before .before .before .loop in
+    let x = getD r (l .j) 0 in
+    omega (arith, l .inv .1 .each x (c .before .if1 .taken), c .before .before .before .before .before .pre .few x, count-most x (take (l .j) r), length-take (l .j) r)
 
-mul-l-2 : tie.Need-mul-l-2 Inv-loop μ-loop
-mul-l-2 c = search needs
+mul-loads-2 : tie.Need-mul-loads-2 Inv-loop μ-loop
+mul-loads-2 c = search needs
 
-array-write-l : tie.Need-array-write-l Inv-loop μ-loop
-array-write-l c = search needs
+element-write-loads : tie.Need-element-write-loads Inv-loop μ-loop
+element-write-loads c = search needs
 
 add-j : tie.Need-add-j Inv-loop μ-loop
 add-j c = search needs
@@ -58,9 +58,9 @@ loop-again c =
     let r = now (c .before .before .before .before .args .route) in
     let l = c .before .before .before .loop in
     let t = c .before .before .loop-test .taken in
-    let counts = Counted (c .before .before .before .before .args .loads) (take (l .j + 1) r) in (
+    let counts = Counted (now (c .before .before .before .before .args .loads)) (take (l .j + 1) r) in (
       search needs,
-      ⊎-elim (λ w. subst counts (sym (w .1)) (counted-next _ r t (l .inv .1) (w .0 .taken))) (λ w. subst counts (sym (w .1)) (counted-past _ r t (l .inv .1) (w .0 .left))) (c .if1 .came),
+      ⊎-elim (λ w. subst counts (sym (w .2)) (counted-next _ r t (l .inv .1) (w .0 .taken))) (λ w. subst counts (sym (w .1)) (counted-past _ r t (l .inv .1) (w .0 .left))) (c .if1 .came),
     )
 
 returns : tie.Need-returns Inv-loop μ-loop
@@ -75,11 +75,11 @@ add-route-spec =
     loop-holds
     shared-slice-read-x
     cast-x
-    mul-l
-    array-read-l
-    add-l
-    mul-l-2
-    array-write-l
+    mul-loads
+    element-copy-out-loads
+    add-loads
+    mul-loads-2
+    element-write-loads
     add-j
     loop-less
     loop-again

@@ -47,14 +47,15 @@ part-add-route-start c = search needs
 
 part-add-route-end : tie.Need-part-add-route-end Inv-loop μ-loop
 part-add-route-end c =
-    let z : length (c .before .before .before .before .before .before .args .t1 .route) ≡ 2432 = search needs in
-    omega (arith, c .before .row-len .ensures, few (c .before .before .before))
+    let z : length (c .before .before .before .before .before .before .before .args .t1 .route) ≡ 2432 = search needs in
+    omega (arith, c .before .before .row-len .ensures, few (c .before .before .before .before))
 
 add-route-requires : tie.Need-add-route-requires Inv-loop μ-loop
 add-route-requires c κs =
-    let a = c .before .before .before .before .before .before .before .args in
-    let l = c .before .before .before .before .before .loop in
-    rw (lent (a .t1 .route) (16 * l .k) (c .before .before .row-len .result), c .before .before .row-len .ensures) (tallied-room _ (l .inv) (usable-lightpaths (c .before .before .before .before .before .before .before .pre)))
+    let a = c .before .before .before .before .before .before .before .before .args in
+    let l = c .before .before .before .before .before .before .loop in
+    let n = c .before .before .before .row-len in
+    rw (lent (a .t1 .route) (16 * l .k) (n .result), n .ensures) (tallied-room _ (l .inv) (usable-lightpaths (c .before .before .before .before .before .before .before .before .pre)))
 
 add-k : tie.Need-add-k Inv-loop μ-loop
 add-k c = search needs
@@ -64,9 +65,10 @@ loop-less c = search needs
 
 loop-again : tie.Need-loop-again Inv-loop μ-loop
 loop-again c =
-    let a = c .before .before .before .before .before .before .before .before .args in
-    let l = c .before .before .before .before .before .before .loop in
-    tallied-next _ (l .inv) (c .before .before .before .before .before .loop-test .taken) (rw (lent (a .t1 .route) (16 * l .k) (c .before .before .before .row-len .result), c .before .before .before .row-len .ensures) at (c .add-route .ensures))
+    let a = c .before .before .before .before .before .before .before .before .before .args in
+    let l = c .before .before .before .before .before .before .before .loop in
+    let n = c .before .before .before .before .row-len in
+    tallied-next _ (l .inv) (c .before .before .before .before .before .before .loop-test .taken) (rw (lent (a .t1 .route) (16 * l .k) (n .result), n .ensures) at (c .add-route .ensures))
 
 returns : tie.Need-returns Inv-loop μ-loop
 returns c = tallied-done _ (c .before .loop .inv) (c .loop-test .left)

@@ -1,4 +1,4 @@
--- The branches are the cases of the test: the lightpath is up, its side holds its other end, or neither. The test of each branch decides the definition's own.
+-- The branches are the cases of the test: the lightpath is up, its ends are joined, or neither. The test of each branch decides the definition's own.
 use borrow.Author.Needs.{needs}
 use Rattle.judgement.proofs.pairs.apart_at.Statement.{statement}
 use Rattle.judgement.proofs.pairs.apart_at.Tie as tie
@@ -9,25 +9,20 @@ element-copy-out-if1 c = search needs
 returns : tie.Need-returns
 returns c = rw (c .if1 .taken)
 
-element-copy-out-side-of : tie.Need-element-copy-out-side-of
-element-copy-out-side-of c = search needs
+element-copy-out-joined : tie.Need-element-copy-out-joined
+element-copy-out-joined c = search needs
 
-side-of-requires : tie.Need-side-of-requires
-side-of-requires c κs = let p = c .before .before .before .pre in (p .0 .from-low _, p .0, p .1)
+element-copy-out-joined-2 : tie.Need-element-copy-out-joined-2
+element-copy-out-joined-2 c = search needs
 
-element-copy-out-has : tie.Need-element-copy-out-has
-element-copy-out-has c = search needs
-
-has-requires : tie.Need-has-requires
-has-requires c κs = c .before .before .before .before .before .pre .0 .to-low _
+joined-requires : tie.Need-joined-requires
+joined-requires c κs = let p = c .before .before .before .before .pre in (p .0 .from-low _, p .0 .to-low _, p .0, p .1)
 
 returns-2 : tie.Need-returns-2
-returns-2 c =
-    rw (c .before .before .before .before .before .if1 .left, ← (c .before .before .before .side-of .ensures), ← (c .before .has .ensures), c .if2 .taken)
+returns-2 c = rw (c .before .before .before .before .if1 .left, ← (c .before .joined .ensures), c .if2 .taken)
 
 returns-3 : tie.Need-returns-3
-returns-3 c =
-    rw (c .before .before .before .before .before .if1 .left, ← (c .before .before .before .side-of .ensures), ← (c .before .has .ensures), c .if2 .left)
+returns-3 c = rw (c .before .before .before .before .if1 .left, ← (c .before .joined .ensures), c .if2 .left)
 
 pub apart-at-spec : {M : Type 1} → statement M
 apart-at-spec =
@@ -35,9 +30,8 @@ apart-at-spec =
     (tie.spec
     element-copy-out-if1
     returns
-    element-copy-out-side-of
-    side-of-requires
-    element-copy-out-has
-    has-requires
+    element-copy-out-joined
+    element-copy-out-joined-2
+    joined-requires
     returns-2
     returns-3)
