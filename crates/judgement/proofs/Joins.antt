@@ -16,17 +16,7 @@ use Rattle.book.proofs.Bits.{bit-iff, bit-ext, has-true, true-has, bit-one, bit
 use Rattle.book.proofs.Tests.{and-inv}
 use Rattle.judgement.specs.Network.{Network, Link, Joined, start, more, brought, grown, swept, settled, sideOf}
 use Rattle.judgement.specs.Inside.{Grows, none, by}
-
-or-l : {a : Bool} (b : Bool) → a ≡ true → (a || b) ≡ true
-or-l b e = ap (λ (q : Bool). q || b) e
-
-or-r : (a : Bool) {b : Bool} → b ≡ true → (a || b) ≡ true
-or-r true e = refl
-or-r false e = e
-
-or-inv : (a b : Bool) → (a || b) ≡ true → (a ≡ true) ⊎ (b ≡ true)
-or-inv true b e = inl refl
-or-inv false b e = inr e
+use Rattle.judgement.proofs.Tests.{or-l, or-r, or-inv}
 
 module _ (net : Network) (up : ℕ → Bool) where
   grow-le : (k m : ℕ) → m ≤ grown net up k m

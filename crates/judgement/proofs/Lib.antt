@@ -1,4 +1,5 @@
 -- The laws of crate judgement; docs/PROMISES.md lists the theorems among them.
+pub mod Tests
 pub mod Sets
 pub mod Joins
 pub mod Alike
@@ -21,4 +22,6 @@ pub mod Arrays
 pub mod Apart
 pub mod Opened
 pub mod Demand
+pub mod Labels
+pub mod Pieces
 pub mod Cards
