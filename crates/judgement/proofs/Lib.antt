@@ -24,4 +24,6 @@ pub mod Opened
 pub mod Demand
 pub mod Labels
 pub mod Pieces
+pub mod Lowest
+pub mod Rings
 pub mod Cards
