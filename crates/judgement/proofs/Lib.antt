@@ -26,4 +26,5 @@ pub mod Labels
 pub mod Pieces
 pub mod Lowest
 pub mod Rings
+pub mod Ways
 pub mod Cards
