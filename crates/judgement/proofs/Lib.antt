@@ -27,4 +27,6 @@ pub mod Pieces
 pub mod Lowest
 pub mod Rings
 pub mod Ways
+pub mod Rounds
+pub mod Distinct
 pub mod Cards

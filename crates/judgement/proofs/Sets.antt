@@ -8,7 +8,7 @@ use native.Mathlib.Omega.{arith}
 use lib.Arith.{lt-one}
 use lib.Count.{trailingZeros, under, ones, ones-step}
 use Rattle.book.specs.Bits.{bit}
-use Rattle.book.proofs.Bits.{bit-lt, bit-zero, bit-suc, bit-iff, bit-ext}
+use Rattle.book.proofs.Bits.{bit-lt, bit-zero, bit-suc, bit-of-zero, bit-iff, bit-ext}
 use Rattle.judgement.specs.Inside.{size}
 
 -- two sets below the width with the same members are equal
@@ -62,7 +62,7 @@ module _ (a b : ℕ) (within : (i : ℕ) → bit a i ≡ 1 → bit b i ≡ 1) wh
   bit-le : (i : ℕ) → bit a i ≤ bit b i
   bit-le i = elim (ℕ-discrete (bit a i) 1) [ yes e ↦ omega (arith, e, within i e) | no n ↦ omega (arith, bit-lt a i) ]
 
-  size-le : (k : ℕ) → size k a ≤ size k b
+  pub size-le : (k : ℕ) → size k a ≤ size k b
   unfolding size
   size-le zero = zero-le
   size-le (suc k) = omega (arith, size-le k, bit-le k)
@@ -76,3 +76,16 @@ module _ (a b : ℕ) (within : (i : ℕ) → bit a i ≡ 1 → bit b i ≡ 1) wh
 
   pub size-same : (W : ℕ) → a < 2 ^ W → b < 2 ^ W → size W a ≡ size W b → a ≡ b
   size-same W p q e = bit-ext W a b p q (size-bits W e)
+
+  -- and fewer where it lacks one of the other's
+  pub size-less : (k i : ℕ) → i < k → bit a i ≡ 0 → bit b i ≡ 1 → size k a < size k b
+  size-less k i l p q = elim (decLt (size k a) (size k b)) [ yes y ↦ y | no n ↦ absurd (omega (arith, p, q, size-bits k (omega (arith, size-le k)) i l)) ]
+
+-- a set has at most as many members as the width, and one at least where it holds a number
+pub size-most : (k x : ℕ) → size k x ≤ k
+unfolding size
+size-most zero x = zero-le
+size-most (suc k) x = omega (arith, size-most k x, bit-lt x k)
+
+pub size-some : (k x i : ℕ) → i < k → bit x i ≡ 1 → 0 < size k x
+size-some k x i l e = omega (arith, size-less 0 x (λ j h. absurd (omega (arith, h, bit-of-zero j))) k i l (bit-of-zero i) e)
