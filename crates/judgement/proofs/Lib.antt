@@ -25,6 +25,7 @@ pub mod Demand
 pub mod Labels
 pub mod Pieces
 pub mod Lowest
+pub mod Sparing
 pub mod Rings
 pub mod Ways
 pub mod Rounds

@@ -1,11 +1,12 @@
 -- Sets of numbers below a width, as numbers: the lowest member, and how many there are, so that a set within another that has as many is the other.
 -- All of it is over the width, so that a side of one word and one of several rest on the same laws.
-use Prim.Native.Nat.{ℕ, zero, suc, _+_, _/_, _%_, _^_, _<_, _≤_, zero-le}
+use Prim.Native.Nat.{ℕ, zero, suc, _+_, _/_, _%_, _^_, _<_, _≤_, min, zero-le}
 use mathlib.Core.Path.{_≡_, refl, sym, ap, _∙_}
 use mathlib.Core.Logic.{_↔_}
 use native.Mathlib.Decide.{decLt, ℕ-discrete}
 use native.Mathlib.Omega.{arith}
-use lib.Arith.{lt-one}
+use lib.Arith.{lt-one, digits-mod}
+use lib.Bits.{bitAnd, and-shr, and-step}
 use lib.Count.{trailingZeros, under, ones, ones-step}
 use Rattle.book.specs.Bits.{bit}
 use Rattle.book.proofs.Bits.{bit-lt, bit-zero, bit-suc, bit-of-zero, bit-iff, bit-ext}
@@ -14,6 +15,11 @@ use Rattle.judgement.specs.Inside.{size}
 -- two sets below the width with the same members are equal
 pub set-same : (W a b : ℕ) → a < 2 ^ W → b < 2 ^ W → ((i : ℕ) → i < W → (bit a i ≡ 1) ↔ (bit b i ≡ 1)) → a ≡ b
 set-same W a b p q h = bit-ext W a b p q (λ i l. bit-iff a b i (h i l .0) (h i l .1))
+
+-- what two sets both hold
+pub bit-and : (a b i : ℕ) → bit (bitAnd a b) i ≡ min (bit a i) (bit b i)
+unfolding bit
+bit-and a b i = rw (and-shr, and-step) (digits-mod _ (omega arith))
 
 -- the lowest number in a set
 pub low-in : (k x : ℕ) → trailingZeros k x < k → bit x (trailingZeros k x) ≡ 1
