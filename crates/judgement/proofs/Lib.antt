@@ -30,4 +30,6 @@ pub mod Rings
 pub mod Ways
 pub mod Rounds
 pub mod Distinct
+pub mod Merges
+pub mod Contracts
 pub mod Cards

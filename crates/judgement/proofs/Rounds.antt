@@ -13,9 +13,9 @@ use Rattle.book.specs.Bits.{bit, has, put}
 use Rattle.book.proofs.Bits.{has-true, put-lt}
 use Rattle.judgement.specs.Network.{Network}
 use Rattle.judgement.specs.Inside.{size}
-use Rattle.judgement.specs.Ways.{Way, here, hop, widen, near, way}
+use Rattle.judgement.specs.Ways.{Before, Way, here, hop, widen, near, way}
 use Rattle.judgement.proofs.Sets.{size-le, size-same, size-most, size-some}
-use Rattle.judgement.proofs.Ways.{near-kept, near-start, near-step, stepOf, stepTo}
+use Rattle.judgement.proofs.Ways.{near-kept, near-start, near-step, stepOf, stepTo, way-is, way-before}
 
 -- what holds of round d and is handed on holds of every later round
 later : (P : ℕ → Type 0) (d : ℕ) → P d → ((n : ℕ) → d ≤ n → P n → P (suc n)) → (n : ℕ) → d ≤ n → P n
@@ -93,3 +93,7 @@ module _ (net : Network) (free : ℕ → Bool) (y : ℕ) where
         turn : (W < many W) ⊎ Stops W → bit (near net free y W) x ≡ 1
         turn (inl l) = absurd (omega (arith, size-most W (near net free y W)))
         turn (inr v) = met (v .0) x (stuck (v .0) (v .2) w) W (v .1) .0
+
+    -- THE LAW of the way: where there is one at all, the way that W rounds find is one, and comes before every other
+    pub way-first : {x : ℕ} {ks : List ℕ} → Way net free x ks y → Way net free x (way net free y W x) y × ((js : List ℕ) → Way net free x js y → Before (way net free y W x) js)
+    way-first {x} w = let h = near-all w in (way-is net free y W x h .runs, way-before net free y W x h)
