@@ -32,4 +32,5 @@ pub mod Rounds
 pub mod Distinct
 pub mod Merges
 pub mod Contracts
+pub mod Fewer
 pub mod Cards

@@ -24,7 +24,7 @@ use Rattle.judgement.proofs.Sparing.{lost-none}
 use Rattle.judgement.proofs.Pieces.{piece-joined}
 
 -- an end of the first lightpath, or of a later one
-touch-inv : (net : Network) (k : ℕ) (ks : List ℕ) (q : ℕ) → touches net (k ∷ ks) q ≡ true → ((net .from k ≡ q) ⊎ (net .to k ≡ q)) ⊎ (touches net ks q ≡ true)
+pub touch-inv : (net : Network) (k : ℕ) (ks : List ℕ) (q : ℕ) → touches net (k ∷ ks) q ≡ true → ((net .from k ≡ q) ⊎ (net .to k ≡ q)) ⊎ (touches net ks q ≡ true)
 unfolding touches
 touch-inv net k ks q h = ⊎-elim (λ e. inl (⊎-elim (λ a. inl (eqb-true _ _ a)) (λ b. inr (eqb-true _ _ b)) (or-inv _ _ e))) (λ r. inr r) (or-inv _ _ h)
 
