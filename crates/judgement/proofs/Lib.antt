@@ -29,6 +29,7 @@ pub mod Sparing
 pub mod Rings
 pub mod Ways
 pub mod Rounds
+pub mod SameWays
 pub mod Distinct
 pub mod Merges
 pub mod Contracts
