@@ -24,7 +24,7 @@ use Rattle.judgement.proofs.Stations.{lowest-lt, lowest-has}
 use Rattle.judgement.proofs.First.{First, there, nowhere, first}
 use Rattle.judgement.proofs.Labels.{labels-in, labels-of, labels-lt}
 use Rattle.judgement.proofs.Rings.{touch-inv, Ring, lowest-label}
-use Rattle.judgement.proofs.Merges.{Merges, merges-inv, ring-is, touch-from, touch-to, merged-at}
+use Rattle.judgement.proofs.Merges.{Merges, merges-inv, ring-is, touch-from, touch-to}
 use Rattle.judgement.proofs.Contracts.{Made, singles, next, made-hold, pieces-made, pieces-hold}
 
 -- what a way touches is an end of a lightpath that there is
@@ -68,7 +68,7 @@ module _ (m : RouteBook) (good : wellFormed m ≡ true) where
     st = ends-stations m good k l
 
     label-touched : touched label ≡ true
-    label-touched = lowest-label m piece low ring (network m .from k) (station-lt m good _ (st .0)) (touch-from m good piece low k l) .holds
+    label-touched = lowest-label m piece low ring (network m .from k) (station-lt m good _ (st .0)) (touch-from m piece k) .holds
 
     station-label : (i : ℕ) → has (stations m) i ≡ true → bit (labelled piece) (piece i) ≡ 1
     station-label i s = labels-in (has (stations m)) piece 64 i (station-lt m good i s) s
@@ -109,8 +109,8 @@ module _ (m : RouteBook) (good : wellFormed m ≡ true) where
         less q b t ne p = size-less (labelled (merged m piece ring)) (labelled piece) within 64 q b (gone q t ne) p
 
         go : Dec (label ≡ piece (network m .from k)) → size 64 (labelled (merged m piece ring)) < size 64 (labelled piece)
-        go (no n) = less _ (low _ (station-lt m good _ (st .0))) (touch-from m good piece low k l) n (station-label _ (st .0))
-        go (yes y) = less _ (low _ (station-lt m good _ (st .1))) (touch-to m good piece low k l) (λ e. h .parts (sym y ∙ e)) (station-label _ (st .1))
+        go (no n) = less _ (low _ (station-lt m good _ (st .0))) (touch-from m piece k) n (station-label _ (st .0))
+        go (yes y) = less _ (low _ (station-lt m good _ (st .1))) (touch-to m piece k) (λ e. h .parts (sym y ∙ e)) (station-label _ (st .1))
 
   made-fewer : {n : ℕ} {piece : ℕ → ℕ} → Made m n piece → n + size 64 (labelled piece) ≤ size 64 (stations m)
   made-fewer singles = omega (arith, ap (size 64) singles-all)

@@ -33,5 +33,6 @@ pub mod SameWays
 pub mod Distinct
 pub mod Merges
 pub mod Contracts
+pub mod NodeLabels
 pub mod Fewer
 pub mod Cards

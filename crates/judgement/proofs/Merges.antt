@@ -3,7 +3,7 @@
 use Prim.Native.Nat.{ℕ, suc, _<_, _≤_}
 use mathlib.Core.Path.{_≡_, refl, sym, ap, _∙_, subst}
 use mathlib.Core.List.{List, [], _∷_}
-use mathlib.Core.Logic.{inl, inr, _↔_}
+use mathlib.Core.Logic.{inl, inr, ⊎-elim, _↔_}
 use mathlib.Core.Bool.{Bool, true, false, cond, not, _&&_, false≢true}
 use native.Mathlib.Omega.{arith}
 use native.Mathlib.Decide.{decLt}
@@ -18,7 +18,7 @@ use Rattle.judgement.specs.Network.{Network}
 use Rattle.judgement.specs.Judgement.{sum, rides, network, allUp}
 use Rattle.judgement.specs.Meaning.{Least}
 use Rattle.judgement.specs.Pieces.{over}
-use Rattle.judgement.specs.Ways.{Lex, none, less, same, Before, Distinct, extra, Way, here, hop, way}
+use Rattle.judgement.specs.Ways.{Lex, none, less, same, Before, In, Distinct, extra, Way, here, hop, way}
 use Rattle.judgement.specs.Contraction.{lost, touches, others, round, ringOf, sparing, merges, lowestLabel, merged}
 use Rattle.judgement.proofs.Tests.{or-l, or-r}
 use Rattle.judgement.proofs.Sums.{sum-less}
@@ -27,7 +27,7 @@ use Rattle.judgement.proofs.Sparing.{every-at}
 use Rattle.judgement.proofs.Rings.{Ring, lowest-label}
 use Rattle.judgement.proofs.Ways.{way-is, way-before}
 use Rattle.judgement.proofs.Rounds.{near-all}
-use Rattle.judgement.proofs.Distinct.{way-free, way-distinct}
+use Rattle.judgement.proofs.Distinct.{way-free, way-below, in-cons, way-distinct}
 
 -- of two lists that each come before the other the one is the other
 lex-once : {ks js : List ℕ} → Lex ks js → Lex js ks → ks ≡ js
@@ -104,6 +104,26 @@ module _ (m : RouteBook) (piece : ℕ → ℕ) where
           },
         )
 
+    -- all of the ring are lightpaths that there are
+    pub ring-below : k < length (m .lightpaths) → round m piece k ≡ true → (j : ℕ) → In j (ringOf m piece k) → j < length (m .lightpaths)
+    ring-below l h j i =
+        let w = ring-first h in
+        ⊎-elim (λ e. subst (λ (n : ℕ). n < length (m .lightpaths)) (sym e) l) (λ q. way-below net (others m piece k) (w .2 .runs) j q) (in-cons (subst (In j) (w .1) i))
+
+    -- it touches the pieces of k's ends
+    pub touch-from : touches (over (network m) piece) (ringOf m piece k) (piece (network m .from k)) ≡ true
+    unfolding touches
+    touch-from = or-l _ (or-l _ (eq-eqb (piece (network m .from k)) _ refl))
+
+    pub touch-to : touches (over (network m) piece) (ringOf m piece k) (piece (network m .to k)) ≡ true
+    unfolding touches
+    touch-to = or-l _ (or-r (eqb (piece (network m .from k)) (piece (network m .to k))) (eq-eqb (piece (network m .to k)) _ refl))
+
+    -- and a merge gives all that it touches one label
+    pub merged-at : (i : ℕ) → touches (over (network m) piece) (ringOf m piece k) (piece i) ≡ true → merged m piece (ringOf m piece k) i ≡ lowestLabel m piece (ringOf m piece k)
+    unfolding merged
+    merged-at i e = rw e
+
 module _ (m : RouteBook) (good : wellFormed m ≡ true) (piece : ℕ → ℕ) (low : (i : ℕ) → i < 64 → piece i < 64) (k : ℕ) (l : k < length (m .lightpaths)) where
   ends : (j : ℕ) → j < length (m .lightpaths) → (piece (network m .from j) < 64) × (piece (network m .to j) < 64)
   ends j q = (low _ (ends-lt m good j q .0), low _ (ends-lt m good j q .1))
@@ -132,20 +152,7 @@ module _ (m : RouteBook) (good : wellFormed m ≡ true) (piece : ℕ → ℕ) (l
   abbrev touched : ℕ → Bool
   touched = touches (over (network m) piece) ring
 
-  -- it touches the pieces of k's ends
-  pub touch-from : touches (over (network m) piece) (ringOf m piece k) (piece (network m .from k)) ≡ true
-  unfolding touches
-  touch-from = or-l _ (or-l _ (eq-eqb (piece (network m .from k)) _ refl))
-
-  pub touch-to : touches (over (network m) piece) (ringOf m piece k) (piece (network m .to k)) ≡ true
-  unfolding touches
-  touch-to = or-l _ (or-r (eqb (piece (network m .from k)) (piece (network m .to k))) (eq-eqb (piece (network m .to k)) _ refl))
-
-  -- a merge gives what it touches one label, and raises none
-  pub merged-at : (i : ℕ) → touches (over (network m) piece) (ringOf m piece k) (piece i) ≡ true → merged m piece (ringOf m piece k) i ≡ lowestLabel m piece (ringOf m piece k)
-  unfolding merged
-  merged-at i e = rw e
-
+  -- the labels only fall
   merged-le : (i : ℕ) → i < 64 → merged m piece ring i ≤ piece i
   unfolding merged
   merged-le i q = turn (touched (piece i)) refl
@@ -161,8 +168,8 @@ module _ (m : RouteBook) (good : wellFormed m ≡ true) (piece : ℕ → ℕ) (l
       turn : Dec (merged m piece (ringOf m piece k) (network m .from k) < piece (network m .from k)) → sum (merged m piece (ringOf m piece k)) 64 < sum piece 64
       turn (yes q) = sum-less _ piece 64 (network m .from k) merged-le (ends-lt m good k l .0) q
       turn (no q) = sum-less _ piece 64 (network m .to k) merged-le (ends-lt m good k l .1)
-          (let a = merged-at (network m .from k) touch-from in
-          let b = merged-at (network m .to k) touch-to in
+          (let a = merged-at m piece k (network m .from k) (touch-from m piece k) in
+          let b = merged-at m piece k (network m .to k) (touch-to m piece k) in
           let c = merged-le (network m .from k) (ends-lt m good k l .0) in
           let d = merged-le (network m .to k) (ends-lt m good k l .1) in
           omega (arith, h .parts))
