@@ -10,9 +10,9 @@ use lib.Dec.{ltb}
 use lib.ListN.{length}
 use borrow.Author.Tests.{lt-ltb, le-ltb}
 use Rattle.book.specs.Book.{RouteBook, wellFormed}
-use Rattle.judgement.specs.Judgement.{sum, load, limit, firstOf, splitOr, verdict}
+use Rattle.judgement.specs.Judgement.{sum, load, limit, firstOf, verdict}
 use Rattle.judgement.specs.Meaning.{Least}
-use Rattle.judgement.specs.Pieces.{HoldTogether, splitOver}
+use Rattle.judgement.specs.Pieces.{HoldTogether}
 use Rattle.judgement.specs.Contraction.{ringOf, merges, taken, merged, contract, mergesIn, pieces, verdictOver}
 use Rattle.judgement.specs.declared.Verdict.{Verdict}
 use Rattle.judgement.specs.declared.Verdict.the-variants.{Over}

@@ -1,8 +1,8 @@
 -- Each merge makes the pieces of the stations fewer: the labels after it are labels from before, and one of the two that its lightpath joined is gone.
 -- So there are fewer merges than stations, and at most 63.
-use Prim.Native.Nat.{ℕ, suc, _+_, _*_, _<_, _≤_}
+use Prim.Native.Nat.{ℕ, _+_, _*_, _<_, _≤_}
 use mathlib.Core.Path.{_≡_, refl, sym, ap, _∙_, subst}
-use mathlib.Core.List.{List, _∷_}
+use mathlib.Core.List.{List}
 use mathlib.Core.Logic.{_⊎_, inl, inr, ⊎-elim}
 use mathlib.Core.Bool.{Bool, true, false, cond, false≢true}
 use native.Mathlib.Omega.{arith}
@@ -15,7 +15,7 @@ use Rattle.book.proofs.Bits.{bit-lt, has-true, true-has}
 use Rattle.book.proofs.Bounds.{stations-lt, station-lt, ends-stations}
 use Rattle.judgement.specs.Network.{Network}
 use Rattle.judgement.specs.Inside.{size}
-use Rattle.judgement.specs.Judgement.{network, load, limit, firstOf, stations, lowest}
+use Rattle.judgement.specs.Judgement.{network, load, limit, stations, lowest}
 use Rattle.judgement.specs.Pieces.{over, labels, HoldTogether}
 use Rattle.judgement.specs.Ways.{Way, here, hop}
 use Rattle.judgement.specs.Contraction.{touches, ringOf, lowestLabel, merged, mergesIn, pieces, mergeCount}
@@ -23,7 +23,7 @@ use Rattle.judgement.proofs.Sets.{set-same, size-less, size-most, size-
 use Rattle.judgement.proofs.Stations.{lowest-lt, lowest-has}
 use Rattle.judgement.proofs.First.{First, there, nowhere, first}
 use Rattle.judgement.proofs.Labels.{labels-in, labels-of, labels-lt}
-use Rattle.judgement.proofs.Rings.{touch-inv, Ring, lowest-label}
+use Rattle.judgement.proofs.Rings.{touch-inv, lowest-label}
 use Rattle.judgement.proofs.Merges.{Merges, merges-inv, ring-is, touch-from, touch-to}
 use Rattle.judgement.proofs.Contracts.{Made, singles, next, made-hold, pieces-made, pieces-hold}
 

@@ -1,10 +1,10 @@
 -- ONE MERGE: what the test of a lightpath says, that its ring is the first way round and may be merged, and that the labels only fall. So the pieces still
 -- hold together after the merge, and the sum of the labels is less.
-use Prim.Native.Nat.{ℕ, suc, _<_, _≤_}
+use Prim.Native.Nat.{ℕ, _<_, _≤_}
 use mathlib.Core.Path.{_≡_, refl, sym, ap, _∙_, subst}
-use mathlib.Core.List.{List, [], _∷_}
+use mathlib.Core.List.{List, _∷_}
 use mathlib.Core.Logic.{inl, inr, ⊎-elim, _↔_}
-use mathlib.Core.Bool.{Bool, true, false, cond, not, _&&_, false≢true}
+use mathlib.Core.Bool.{Bool, true, false, cond, not, false≢true}
 use native.Mathlib.Omega.{arith}
 use native.Mathlib.Decide.{decLt}
 use lib.Dec.{eqb, leb}
@@ -16,13 +16,12 @@ use Rattle.book.proofs.Bounds.{ends-lt}
 use Rattle.book.proofs.Tests.{and-inv}
 use Rattle.judgement.specs.Network.{Network}
 use Rattle.judgement.specs.Judgement.{sum, rides, network, allUp}
-use Rattle.judgement.specs.Meaning.{Least}
 use Rattle.judgement.specs.Pieces.{over}
 use Rattle.judgement.specs.Ways.{Lex, none, less, same, Before, In, Distinct, extra, Way, here, hop, way}
-use Rattle.judgement.specs.Contraction.{lost, touches, others, round, ringOf, sparing, merges, lowestLabel, merged}
+use Rattle.judgement.specs.Contraction.{lost, touches, others, round, ringOf, merges, lowestLabel, merged}
 use Rattle.judgement.proofs.Tests.{or-l, or-r}
 use Rattle.judgement.proofs.Sums.{sum-less}
-use Rattle.judgement.proofs.Lowest.{Passes, least-le}
+use Rattle.judgement.proofs.Lowest.{least-le}
 use Rattle.judgement.proofs.Sparing.{every-at}
 use Rattle.judgement.proofs.Rings.{Ring, lowest-label}
 use Rattle.judgement.proofs.Ways.{way-is, way-before}
@@ -108,7 +107,8 @@ module _ (m : RouteBook) (piece : ℕ → ℕ) where
     pub ring-below : k < length (m .lightpaths) → round m piece k ≡ true → (j : ℕ) → In j (ringOf m piece k) → j < length (m .lightpaths)
     ring-below l h j i =
         let w = ring-first h in
-        ⊎-elim (λ e. subst (λ (n : ℕ). n < length (m .lightpaths)) (sym e) l) (λ q. way-below net (others m piece k) (w .2 .runs) j q) (in-cons (subst (In j) (w .1) i))
+        ⊎-elim (λ e. subst (λ (n : ℕ). n < length (m .lightpaths)) (sym e) l)
+        (λ q. way-below net (others m piece k) (w .2 .runs) j q) (in-cons (subst (In j) (w .1) i))
 
     -- it touches the pieces of k's ends
     pub touch-from : touches (over (network m) piece) (ringOf m piece k) (piece (network m .from k)) ≡ true
@@ -120,7 +120,8 @@ module _ (m : RouteBook) (piece : ℕ → ℕ) where
     touch-to = or-l _ (or-r (eqb (piece (network m .from k)) (piece (network m .to k))) (eq-eqb (piece (network m .to k)) _ refl))
 
     -- and a merge gives all that it touches one label
-    pub merged-at : (i : ℕ) → touches (over (network m) piece) (ringOf m piece k) (piece i) ≡ true → merged m piece (ringOf m piece k) i ≡ lowestLabel m piece (ringOf m piece k)
+    merged-at : (i : ℕ) → touches (over (network m) piece) (ringOf m piece k) (piece i) ≡ true
+        → merged m piece (ringOf m piece k) i ≡ lowestLabel m piece (ringOf m piece k)
     unfolding merged
     merged-at i e = rw e
 

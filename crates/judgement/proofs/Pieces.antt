@@ -3,9 +3,8 @@
 use Prim.Native.Nat.{ℕ, _^_, _<_}
 use mathlib.Core.Path.{_≡_, refl, sym, ap, _∙_, subst}
 use mathlib.Core.Logic.{inl, inr, ⊎-elim, _↔_}
-use mathlib.Core.Bool.{Bool, true, not, cond, _&&_}
+use mathlib.Core.Bool.{Bool, true, not, _&&_}
 use native.Mathlib.Omega.{arith}
-use lib.Dec.{eqb}
 use lib.ListN.{length}
 use borrow.Author.Tests.{eqb-true, eq-eqb}
 use Rattle.book.specs.Book.{RouteBook, wellFormed}
@@ -13,13 +12,12 @@ use Rattle.book.specs.Bits.{has, bit}
 use Rattle.book.proofs.Bits.{has-true, true-has}
 use Rattle.book.proofs.Bounds.{station-lt, ends-stations, ends-lt}
 use Rattle.book.proofs.Tests.{and-inv, and-both}
-use Rattle.judgement.specs.Network.{Network, Link, Joined, start, more}
-use Rattle.judgement.specs.Judgement.{rides, network, without, allUp, stations, lowest, side, whole, cutOrOkay, splitOr}
+use Rattle.judgement.specs.Network.{Network, Joined, start, more}
+use Rattle.judgement.specs.Judgement.{network, without, allUp, stations, lowest, side, whole, cutOrOkay, splitOr}
 use Rattle.judgement.specs.Cuts.{AllJoined}
 use Rattle.judgement.specs.Pieces.{over, labels, pieceSide, pieceWhole, inStations, cutOver, splitOver, Together, HoldTogether, HoldBy}
 use Rattle.judgement.specs.Ways.{Runs}
-use Rattle.judgement.specs.declared.Verdict.{Verdict}
-use Rattle.judgement.specs.declared.Verdict.the-variants.{Split, Cut, Okay}
+use Rattle.judgement.specs.declared.Verdict.the-variants.{Cut, Okay}
 use Rattle.judgement.proofs.Tests.{bool-iff}
 use Rattle.judgement.proofs.Sets.{set-same}
 use Rattle.judgement.proofs.Joins.{side-joined, side-grown}
@@ -116,14 +114,17 @@ module _ (m : RouteBook) (good : wellFormed m ≡ true) (piece : ℕ → ℕ) (u
             let st = joined-station m good up i j in
             labels-in test (λ j. j) 64 i l (and-both st (has-true _ _ (joined-side i st .0 j)))
 
+    label-in : (i : ℕ) → Station i → bit (labels (has (stations m)) piece 64) (piece i) ≡ 1
+    label-in i st = labels-in (has (stations m)) piece 64 i (station-lt m good i st) st
+
     -- all pieces are joined exactly if all stations are
     pieces-joined : (pieceWhole m piece up ≡ true) ↔ AllJoined m up
     pieces-joined = (
-      (λ w i st. joined-side i st .1 (subst (λ (s : ℕ). bit s (piece i) ≡ 1) (sym (eqb-true _ _ w)) (labels-in (has (stations m)) piece 64 i (station-lt m good i st) st))),
+      (λ w i st. joined-side i st .1 (subst (λ (s : ℕ). bit s (piece i) ≡ 1) (sym (eqb-true _ _ w)) (label-in i st))),
       (λ all. eq-eqb _ _ (set-same 64 _ _ piece-lt (labels-lt (has (stations m)) piece 64 64 low) (λ q l. (
         (λ h.
             let w = joined-piece q (piece-in q .0 h) in
-            subst (λ (r : ℕ). bit (labels (has (stations m)) piece 64) r ≡ 1) (w .2) (labels-in (has (stations m)) piece 64 (w .0) (station-lt m good _ (w .1)) (w .1))),
+            subst (λ (r : ℕ). bit (labels (has (stations m)) piece 64) r ≡ 1) (w .2) (label-in (w .0) (w .1))),
         (λ h.
             let w = labels-of (has (stations m)) piece 64 q h in
             subst (λ (r : ℕ). bit (pieceSide m piece up) r ≡ 1) (w .3) (joined-side (w .0) (w .2) .0 (all (w .0) (w .2)))),

@@ -24,7 +24,8 @@ use Rattle.judgement.proofs.Sparing.{lost-none}
 use Rattle.judgement.proofs.Pieces.{piece-joined}
 
 -- an end of the first lightpath, or of a later one
-pub touch-inv : (net : Network) (k : ℕ) (ks : List ℕ) (q : ℕ) → touches net (k ∷ ks) q ≡ true → ((net .from k ≡ q) ⊎ (net .to k ≡ q)) ⊎ (touches net ks q ≡ true)
+pub touch-inv : (net : Network) (k : ℕ) (ks : List ℕ) (q : ℕ) → touches net (k ∷ ks) q ≡ true
+    → ((net .from k ≡ q) ⊎ (net .to k ≡ q)) ⊎ (touches net ks q ≡ true)
 unfolding touches
 touch-inv net k ks q h = ⊎-elim (λ e. inl (⊎-elim (λ a. inl (eqb-true _ _ a)) (λ b. inr (eqb-true _ _ b)) (or-inv _ _ e))) (λ r. inr r) (or-inv _ _ h)
 
@@ -82,7 +83,8 @@ module _ (net : Network) (free out : ℕ → Bool) where
           t
 
   -- THE LAW of a ring: what it touches is joined
-  ring-joined : {x : ℕ} {ks : List ℕ} → Way net free x ks x → lost out ks ≤ 1 → (q r : ℕ) → touches net ks q ≡ true → touches net ks r ≡ true → Joined net up q r
+  ring-joined : {x : ℕ} {ks : List ℕ} → Way net free x ks x → lost out ks ≤ 1
+      → (q r : ℕ) → touches net ks q ≡ true → touches net ks r ≡ true → Joined net up q r
   ring-joined {x} {ks} w e q r a b = join-trans net up (join-sym net up (base q a)) (base r b)
     where
       base : (q : ℕ) → touches net ks q ≡ true → Joined net up x q
@@ -119,19 +121,22 @@ module _ (m : RouteBook) (piece : ℕ → ℕ) (low : (i : ℕ) → i < 64 → p
     unfolding merged
     merged-together out e whole x y sx sy = go (touched (piece x)) refl (touched (piece y)) refl
       where
-        label : (i : ℕ) → has (stations m) i ≡ true → touches (over (network m) piece) ks (piece i) ≡ true → touches (over (network m) piece) ks (lowestLabel m piece ks) ≡ true
+        label : (i : ℕ) → has (stations m) i ≡ true → touches (over (network m) piece) ks (piece i) ≡ true
+            → touches (over (network m) piece) ks (lowestLabel m piece ks) ≡ true
         label i st f = lowest-label i (station-lt m good i st) f .holds
 
         go : (a : Bool) → touches (over (network m) piece) ks (piece x) ≡ a → (b : Bool) → touches (over (network m) piece) ks (piece y) ≡ b
             → cond a (lowestLabel m piece ks) (piece x) ≡ cond b (lowestLabel m piece ks) (piece y) → Joined (network m) (λ k. not (out k)) x y
         go true f true g h =
-            piece-joined m good piece (λ k. not (out k)) whole x y sx sy .1 (ring-joined (over (network m) piece) allUp out (ring .closed) e (piece x) (piece y) f g)
+            piece-joined m good piece (λ k. not (out k)) whole x y sx sy .1
+            (ring-joined (over (network m) piece) allUp out (ring .closed) e (piece x) (piece y) f g)
         go true f false g h = absurd (false≢true (sym g ∙ ap touched (sym h) ∙ label x sx f))
         go false f true g h = absurd (false≢true (sym f ∙ ap touched h ∙ label y sy g))
         go false f false g h = whole x y sx sy h
 
 -- THE LAW of a merge: pieces that hold together still do when a ring of them is made one
-pub merged-hold : (m : RouteBook) → wellFormed m ≡ true → (piece : ℕ → ℕ) (ks : List ℕ) → Ring m piece ks → HoldTogether m piece → HoldTogether m (merged m piece ks)
+pub merged-hold : (m : RouteBook) → wellFormed m ≡ true → (piece : ℕ → ℕ) (ks : List ℕ) → Ring m piece ks
+    → HoldTogether m piece → HoldTogether m (merged m piece ks)
 merged-hold m good piece ks ring h = record {
   low = merged-low m piece (h .low) ks;
   intact = merged-together m piece (h .low) ks good ring (λ k. false) (omega (arith, lost-none ks)) (h .intact);

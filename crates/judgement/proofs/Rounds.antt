@@ -29,11 +29,15 @@ later P d h f (suc n) l = turn (λ q. later P d h f n q) (ℕ-discrete d (suc n)
 module _ (net : Network) (free : ℕ → Bool) (y : ℕ) where
   way-same : (n x : ℕ) → bit (near net free y n) x ≡ 1 → way net free y (suc n) x ≡ way net free y n x
   unfolding way
-  way-same n x h = ap (λ (b : Bool). cond b (way net free y n x) (stepOf net free y n x ∷ way net free y n (stepTo net free y n x))) (has-true (near net free y n) x h)
+  way-same n x h =
+      ap (λ (b : Bool). cond b (way net free y n x) (stepOf net free y n x ∷ way net free y n (stepTo net free y n x))) (has-true (near net free y n) x h)
 
   -- THE LAW of a round that finds x: more rounds find it too, and the way is the same
+  abbrev Met : ℕ → ℕ → ℕ → Type 0
+  Met d x n = (bit (near net free y n) x ≡ 1) × (way net free y n x ≡ way net free y d x)
+
   pub met : (d x : ℕ) → bit (near net free y d) x ≡ 1 → (n : ℕ) → d ≤ n → (bit (near net free y n) x ≡ 1) × (way net free y n x ≡ way net free y d x)
-  met d x h = later (λ n. (bit (near net free y n) x ≡ 1) × (way net free y n x ≡ way net free y d x)) d (h, refl) (λ n l r. (near-kept net free y n x (r .0), way-same n x (r .0) ∙ r .1))
+  met d x h = later (Met d x) d (h, refl) (λ n l r. (near-kept net free y n x (r .0), way-same n x (r .0) ∙ r .1))
 
   -- THE LAW of a round that adds nothing: nor does a later one
   pub ended : (d : ℕ) → near net free y (suc d) ≡ near net free y d → (n : ℕ) → d ≤ n → near net free y n ≡ near net free y d
@@ -59,7 +63,7 @@ module _ (net : Network) (free : ℕ → Bool) (y : ℕ) where
         turn g true = put-lt W _ _ (put-lt W _ _ g (ends n l .0)) (ends n l .1)
         turn g false = g
 
-    pub near-lt : (n : ℕ) → near net free y n < 2 ^ W
+    near-lt : (n : ℕ) → near net free y n < 2 ^ W
     unfolding near
     near-lt zero = pow-lt y-low
     near-lt (suc n) = widen-lt (near net free y n) (net .count) (le-refl _) (near-lt n)
@@ -95,5 +99,6 @@ module _ (net : Network) (free : ℕ → Bool) (y : ℕ) where
         turn (inr v) = met (v .0) x (stuck (v .0) (v .2) w) W (v .1) .0
 
     -- THE LAW of the way: where there is one at all, the way that W rounds find is one, and comes before every other
-    pub way-first : {x : ℕ} {ks : List ℕ} → Way net free x ks y → Way net free x (way net free y W x) y × ((js : List ℕ) → Way net free x js y → Before (way net free y W x) js)
+    pub way-first : {x : ℕ} {ks : List ℕ} → Way net free x ks y
+        → Way net free x (way net free y W x) y × ((js : List ℕ) → Way net free x js y → Before (way net free y W x) js)
     way-first {x} w = let h = near-all w in (way-is net free y W x h .runs, way-before net free y W x h)

@@ -111,7 +111,8 @@ module _ (S : ℕ → ℕ) where
   pub seen-more : (k : ℕ) (ks : List ℕ) (o t : ℕ) → Seen ks o t → Seen (k ∷ ks) (bitOr o (S k)) (bitOr t (bitAnd o (S k)))
   seen-more k ks o t h = record {
     one = λ x. omega (arith, bit-or o (S k) x, h .one x, lost-bit x k ks, bit-lt (S k) x);
-    two = λ x. rw (bit-or t (bitAnd o (S k)) x, bit-and o (S k) x, h .one x, h .two x, lost-bit x k ks) (two-step (bit (S k) x) (lostAt x ks) (bit-lt (S k) x));
+    two = λ x.
+        rw (bit-or t (bitAnd o (S k)) x, bit-and o (S k) x, h .one x, h .two x, lost-bit x k ks) (two-step (bit (S k) x) (lostAt x ks) (bit-lt (S k) x));
   }
 
   pub seen-last : (k : ℕ) (ks : List ℕ) (o t : ℕ) → Seen ks o t → Seen (ks ++ (k ∷ [])) (bitOr o (S k)) (bitOr t (bitAnd o (S k)))

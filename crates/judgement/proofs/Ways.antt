@@ -1,6 +1,6 @@
 -- THE WAY that is taken is a way, and comes before every other: what is at most n lightpaths away is found round by round, so that no way from what is not
 -- yet found is short, and each step goes by the lowest-numbered lightpath that leads nearer. All of it is over any network and any lightpaths that may be used.
-use Prim.Native.Nat.{ℕ, zero, suc, _<_, _≤_, _^_}
+use Prim.Native.Nat.{ℕ, zero, suc, _<_, _≤_}
 use mathlib.Core.Path.{_≡_, refl, sym, ap, _∙_, subst}
 use mathlib.Core.List.{List, [], _∷_}
 use mathlib.Core.Logic.{_⊎_, inl, inr, ⊎-elim}
@@ -51,12 +51,14 @@ module _ (net : Network) (free : ℕ → Bool) where
       keep q g false = g
 
       test : k ≡ n → used old n ≡ true
-      test y = subst (λ (i : ℕ). used old i ≡ true) y (and-both f (⊎-elim (λ a. or-l (has old (net .to k)) (has-true old _ a)) (λ b. or-r (has old (net .from k)) (has-true old _ b)) h))
+      test y =
+          subst (λ (i : ℕ). used old i ≡ true) y
+          (and-both f (⊎-elim (λ a. or-l (has old (net .to k)) (has-true old _ a)) (λ b. or-r (has old (net .from k)) (has-true old _ b)) h))
 
       turn : (k < n → Both (widen net free old n) k) → Dec (k ≡ n) → Both (cond (used old n) (bothIn (widen net free old n) n) (widen net free old n)) k
       turn ih (yes y) =
-          rw (test y, y)
-          (put-keeps (put (widen net free old n) (net .from n)) (net .to n) (net .from n) (put-same (widen net free old n) (net .from n)), put-same (put (widen net free old n) (net .from n)) (net .to n))
+          let r = put (widen net free old n) (net .from n) in
+          rw (test y, y) (put-keeps r (net .to n) (net .from n) (put-same (widen net free old n) (net .from n)), put-same r (net .to n))
       turn ih (no z) = let g = ih (omega arith) in (keep (net .from k) (g .0) (used old n), keep (net .to k) (g .1) (used old n))
 
   -- what was there, or an end of a lightpath whose other end was there
@@ -137,7 +139,8 @@ module _ (net : Network) (free : ℕ → Bool) where
       turn : free k ≡ true → (b : Bool) → eqb (net .from k) x ≡ b
           → ((eqb (net .from k) x && has s (net .to k)) ≡ true) ⊎ ((eqb (net .to k) x && has s (net .from k)) ≡ true) → Led x s k
       turn f true a (inl g) =
-          record { may = f; runs = rw a (inl (eqb-true _ _ a, refl)); into = rw a (true-has s _ (and-inv {a = eqb (net .from k) x} {b = has s (net .to k)} g .1)) }
+          let h = and-inv {a = eqb (net .from k) x} {b = has s (net .to k)} g in
+          record { may = f; runs = rw a (inl (eqb-true _ _ a, refl)); into = rw a (true-has s _ (h .1)) }
       turn f true a (inr g) = absurd (false≢true (sym e ∙ ap (has s) (sym (eqb-true _ _ a)) ∙ and-inv {a = eqb (net .to k) x} {b = has s (net .from k)} g .1))
       turn f false a (inl g) = absurd (false≢true (sym a ∙ and-inv {a = eqb (net .from k) x} {b = has s (net .to k)} g .0))
       turn f false a (inr g) =
@@ -173,7 +176,8 @@ module _ (net : Network) (free : ℕ → Bool) where
       turn : Next (near net free y n) (net .count) x → Step y n x (stepOf y n x)
       turn (inl g) = absurd (false≢true (sym e ∙ has-true (near net free y n) x g))
       turn (inr w) =
-          let f = lowest-found (leads net free x (near net free y n)) (net .count) (w .0) (w .1) (leads-in x (near net free y n) (w .0) (w .3) (w .2) (w .4) (w .5)) in
+          let led : leads net free x (near net free y n) (w .0) ≡ true = leads-in x (near net free y n) (w .0) (w .3) (w .2) (w .4) (w .5) in
+          let f = lowest-found (leads net free x (near net free y n)) (net .count) (w .0) (w .1) led in
           record {
             below = f .below;
             led = leads-inv x (near net free y n) (stepOf y n x) e (f .holds);
