@@ -1,5 +1,5 @@
--- THE SECOND ENGINE'S VERDICT is that of the judgement: its pieces are made from single stations by merges, each of which leaves them holding together. Its loop
--- ends with a pass that merges nothing, since each merge makes the sum of the labels less.
+-- THE SECOND ENGINE'S VERDICT is that of the judgement: its pieces are made from single stations by merges, each of which leaves them holding together.
+-- Its loop ends with a pass that merges nothing, since each merge makes the sum of the labels less.
 use Prim.Native.Nat.{ℕ, zero, suc, _+_, _-_, _*_, _<_}
 use mathlib.Core.Path.{_≡_, refl, sym, ap, _∙_, subst}
 use mathlib.Core.Bool.{Bool, true, false, cond, false≢true}
@@ -87,7 +87,8 @@ module _ (m : RouteBook) (good : wellFormed m ≡ true) where
   contract-made : (f : ℕ) {n : ℕ} (piece : ℕ → ℕ) → Made m n piece → Made m (n + mergesIn m f piece) (contract m f piece)
   unfolding contract mergesIn
   contract-made zero piece a = subst (λ (c : ℕ). Made m c piece) (omega arith) a
-  contract-made (suc f) {n} piece a = turn (λ l. contract-made f (after m piece) (next a (taken m piece) (taken-is m piece l))) (decLt (taken m piece) (length (m .lightpaths)))
+  contract-made (suc f) {n} piece a =
+      turn (λ l. contract-made f (after m piece) (next a (taken m piece) (taken-is m piece l))) (decLt (taken m piece) (length (m .lightpaths)))
     where
       turn : (Takes m piece → Made m (suc n + mergesIn m f (after m piece)) (contract m f (after m piece))) → Dec (Takes m piece)
           → Made m (n + mergesIn m (suc f) piece) (contract m (suc f) piece)
@@ -95,7 +96,8 @@ module _ (m : RouteBook) (good : wellFormed m ≡ true) where
           subst (Made m (n + mergesIn m (suc f) piece)) (sym (contract-next m piece f l))
           (subst (λ (c : ℕ). Made m c (contract m f (after m piece))) (omega (arith, merges-next m piece f l)) (ih l))
       turn ih (no q) =
-          subst (Made m (n + mergesIn m (suc f) piece)) (sym (contract-end m piece (suc f) q)) (subst (λ (c : ℕ). Made m c piece) (omega (arith, merges-end m piece (suc f) q)) a)
+          subst (Made m (n + mergesIn m (suc f) piece)) (sym (contract-end m piece (suc f) q))
+          (subst (λ (c : ℕ). Made m c piece) (omega (arith, merges-end m piece (suc f) q)) a)
 
   -- each merge makes the sum of the labels less
   lighter : {n : ℕ} {piece : ℕ → ℕ} → Made m n piece → (k : ℕ) → LeastMerges m piece k → sum (merged m piece (ringOf m piece k)) 64 < sum piece 64
@@ -107,7 +109,9 @@ module _ (m : RouteBook) (good : wellFormed m ≡ true) where
   contract-done : (f : ℕ) {n : ℕ} (piece : ℕ → ℕ) → Made m n piece → sum piece 64 < f → Done (contract m f piece)
   contract-done zero piece a l = absurd (omega arith)
   contract-done (suc f) piece a l = turn
-      (λ q. let t : LeastMerges m piece (taken m piece) = taken-is m piece q in contract-done f (after m piece) (next a (taken m piece) t) (omega (arith, lighter a (taken m piece) t)))
+      (λ q.
+      let t : LeastMerges m piece (taken m piece) = taken-is m piece q in
+      contract-done f (after m piece) (next a (taken m piece) t) (omega (arith, lighter a (taken m piece) t)))
       (decLt (taken m piece) (length (m .lightpaths)))
     where
       turn : (Takes m piece → Done (contract m f (after m piece))) → Dec (Takes m piece) → Done (contract m (suc f) piece)
@@ -128,7 +132,8 @@ module _ (m : RouteBook) (good : wellFormed m ≡ true) where
   -- THEOREM: the second engine's verdict is that of the judgement
   pub contracted-same : verdictOver m ≡ verdict m
   contracted-same =
-      ap (λ (r : Verdict). firstOf (λ x. ltb (limit m x) (load m x)) (λ x. Over x (load m x) (limit m x)) r (length (m .spans)) 0) (same-verdict m good (pieces m) pieces-hold)
+      ap (λ (r : Verdict). firstOf (λ x. ltb (limit m x) (load m x)) (λ x. Over x (load m x) (limit m x)) r (length (m .spans)) 0)
+      (same-verdict m good (pieces m) pieces-hold)
 
   -- a loop that has come to the labels `piece` by n merges: what is left to merge makes the pieces, and there is enough left
   pub record Merging (n : ℕ) (piece : ℕ → ℕ) : Type 0 where

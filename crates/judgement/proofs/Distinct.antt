@@ -72,7 +72,8 @@ module _ (net : Network) (free : ℕ → Bool) (y : ℕ) where
   way-distinct zero x h = empty
   way-distinct (suc n) x h = turn (way-distinct n x) (way-distinct n (nextAt n x)) (has (near net free y n) x) refl
     where
-      turn : (bit (near net free y n) x ≡ 1 → Distinct (way net free y n x)) → (bit (near net free y n) (nextAt n x) ≡ 1 → Distinct (way net free y n (nextAt n x)))
+      turn : (bit (near net free y n) x ≡ 1 → Distinct (way net free y n x))
+          → (bit (near net free y n) (nextAt n x) ≡ 1 → Distinct (way net free y n (nextAt n x)))
           → (b : Bool) → has (near net free y n) x ≡ b → Distinct (cond b (way net free y n x) (stepAt n x ∷ way net free y n (nextAt n x)))
       turn stay on true e = stay (true-has _ x e)
       turn stay on false e =

@@ -18,14 +18,14 @@ use Rattle.judgement.specs.Inside.{size}
 use Rattle.judgement.specs.Judgement.{network, load, limit, stations, lowest}
 use Rattle.judgement.specs.Pieces.{over, labels, HoldTogether}
 use Rattle.judgement.specs.Ways.{Way, here, hop}
-use Rattle.judgement.specs.Contraction.{touches, ringOf, lowestLabel, merged, mergesIn, pieces, mergeCount}
+use Rattle.judgement.specs.Contraction.{touches, ringOf, lowestLabel, merged, mergesIn, mergeCount}
 use Rattle.judgement.proofs.Sets.{set-same, size-less, size-most, size-some}
 use Rattle.judgement.proofs.Stations.{lowest-lt, lowest-has}
 use Rattle.judgement.proofs.First.{First, there, nowhere, first}
 use Rattle.judgement.proofs.Labels.{labels-in, labels-of, labels-lt}
 use Rattle.judgement.proofs.Rings.{touch-inv, lowest-label}
 use Rattle.judgement.proofs.Merges.{Merges, merges-inv, ring-is, touch-from, touch-to}
-use Rattle.judgement.proofs.Contracts.{Made, singles, next, made-hold, pieces-made, pieces-hold}
+use Rattle.judgement.proofs.Contracts.{Made, singles, next, made-hold, pieces-made}
 
 -- what a way touches is an end of a lightpath that there is
 way-touch : (net : Network) (free : ℕ → Bool) {x y : ℕ} {ks : List ℕ} → Way net free x ks y → (q : ℕ) → touches net ks q ≡ true
@@ -92,12 +92,15 @@ module _ (m : RouteBook) (good : wellFormed m ≡ true) where
     -- a label that the ring touches is gone, unless it is the lowest
     gone : (q : ℕ) → touched q ≡ true → (label ≡ q → ⊥) → bit (labelled (merged m piece ring)) q ≡ 0
     unfolding merged
-    gone q t ne = elim (ℕ-discrete (bit (labelled (merged m piece ring)) q) 1) [ yes b ↦ absurd (out b) | no n ↦ omega (arith, bit-lt (labelled (merged m piece ring)) q) ]
+    gone q t ne =
+        let s = labelled (merged m piece ring) in
+        elim (ℕ-discrete (bit s q) 1) [ yes b ↦ absurd (out b) | no n ↦ omega (arith, bit-lt s q) ]
       where
         out : bit (labelled (merged m piece ring)) q ≡ 1 → ⊥
         out b = let w = labels-of (has (stations m)) (merged m piece ring) 64 q b in go (w .0) (touched (piece (w .0))) refl (w .3)
           where
-            go : (i : ℕ) (u : Bool) → touches (over (network m) piece) (ringOf m piece k) (piece i) ≡ u → cond u (lowestLabel m piece (ringOf m piece k)) (piece i) ≡ q → ⊥
+            go : (i : ℕ) (u : Bool) → touches (over (network m) piece) (ringOf m piece k) (piece i) ≡ u
+                → cond u (lowestLabel m piece (ringOf m piece k)) (piece i) ≡ q → ⊥
             go i true e f = ne f
             go i false e f = false≢true (sym e ∙ ap touched f ∙ t)
 
@@ -118,11 +121,15 @@ module _ (m : RouteBook) (good : wellFormed m ≡ true) where
 
   some-label : (piece : ℕ → ℕ) → HoldTogether m piece → 0 < size 64 (labelled piece)
   some-label piece h =
-      size-some 64 (labelled piece) (piece (lowest m)) (h .low (lowest m) (lowest-lt m good)) (labels-in (has (stations m)) piece 64 (lowest m) (lowest-lt m good) (lowest-has m good))
+      size-some 64 (labelled piece) (piece (lowest m)) (h .low (lowest m) (lowest-lt m good))
+      (labels-in (has (stations m)) piece 64 (lowest m) (lowest-lt m good) (lowest-has m good))
 
-  -- THE LAW: there are fewer merges than stations
+  -- THE LAW: there are fewer merges than stations, on the way and at the end
+  pub made-few : {n : ℕ} {piece : ℕ → ℕ} → Made m n piece → n < size 64 (stations m)
+  made-few {piece = piece} a = omega (arith, made-fewer a, some-label piece (made-hold m good a))
+
   pub merges-few : mergesIn m (64 * 64) (λ i. i) < size 64 (stations m)
-  merges-few = omega (arith, made-fewer (pieces-made m good), some-label (pieces m) (pieces-hold m good))
+  merges-few = made-few (pieces-made m good)
 
   pub count-few : mergeCount m ≤ 63
   count-few = go (first (λ x. ltb (limit m x) (load m x)) (λ x. 0) (mergesIn m (64 * 64) (λ i. i)) (length (m .spans)) 0)

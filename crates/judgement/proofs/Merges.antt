@@ -158,7 +158,8 @@ module _ (m : RouteBook) (good : wellFormed m ≡ true) (piece : ℕ → ℕ) (l
   unfolding merged
   merged-le i q = turn (touched (piece i)) refl
     where
-      turn : (b : Bool) → touches (over (network m) piece) (ringOf m piece k) (piece i) ≡ b → cond b (lowestLabel m piece (ringOf m piece k)) (piece i) ≤ piece i
+      turn : (b : Bool) → touches (over (network m) piece) (ringOf m piece k) (piece i) ≡ b
+          → cond b (lowestLabel m piece (ringOf m piece k)) (piece i) ≤ piece i
       turn true e = least-le (lowest-label m piece low ring i q e) (piece i) e
       turn false e = omega arith
 

@@ -32,6 +32,9 @@ module _ (m : RouteBook) (good : wellFormed m ≡ true) where
     over-alike free = record { count = refl; from = λ k l. same _ (ends-lt m good k l .0); to = λ k l. same _ (ends-lt m good k l .1); state = λ k l. refl }
 
     module _ (k : ℕ) (l : k < length (m .lightpaths)) where
+      abbrev free : ℕ → Bool
+      free = others m piece k
+
       from-same : piece (network m .from k) ≡ piece′ (network m .from k)
       from-same = same _ (ends-lt m good k l .0)
 
@@ -40,15 +43,15 @@ module _ (m : RouteBook) (good : wellFormed m ≡ true) where
 
       round-same : round m piece k ≡ round m piece′ k
       round-same = ap₂ has
-          (near-alike (over (network m) piece) (over (network m) piece′) (others m piece k) (others m piece k) (over-alike (others m piece k)) (piece (network m .to k)) 64
-          ∙ ap (λ (y : ℕ). near (over (network m) piece′) (others m piece k) y 64) to-same)
+          (near-alike (over (network m) piece) (over (network m) piece′) free free (over-alike free) (piece (network m .to k)) 64
+          ∙ ap (λ (y : ℕ). near (over (network m) piece′) free y 64) to-same)
           from-same
 
       ring-same : round m piece k ≡ true → ringOf m piece k ≡ ringOf m piece′ k
       ring-same h = ap (λ (ks : List ℕ). k ∷ ks)
-          (way-alike (over (network m) piece) (over (network m) piece′) (others m piece k) (others m piece k) (over-alike (others m piece k))
+          (way-alike (over (network m) piece) (over (network m) piece′) free free (over-alike free)
           (piece (network m .to k)) 64 (piece (network m .from k)) (true-has _ _ h)
-          ∙ ap₂ (λ (y x : ℕ). way (over (network m) piece′) (others m piece k) y 64 x) to-same from-same)
+          ∙ ap₂ (λ (y x : ℕ). way (over (network m) piece′) free y 64 x) to-same from-same)
 
       pub merges-same : merges m piece k ≡ merges m piece′ k
       unfolding merges
@@ -57,7 +60,8 @@ module _ (m : RouteBook) (good : wellFormed m ≡ true) where
           spared : List ℕ → Bool
           spared ks = sparing m piece ks
 
-          turn : (b : Bool) → round m piece k ≡ b → (round m piece k && sparing m piece (ringOf m piece k)) ≡ (round m piece′ k && sparing m piece (ringOf m piece′ k))
+          turn : (b : Bool) → round m piece k ≡ b
+              → (round m piece k && sparing m piece (ringOf m piece k)) ≡ (round m piece′ k && sparing m piece (ringOf m piece′ k))
           turn true e = ap₂ (λ (s : Bool) (ks : List ℕ). s && spared ks) round-same (ring-same e)
           turn false e = ap (λ (s : Bool). s && spared (ringOf m piece k)) e ∙ sym (ap (λ (s : Bool). s && spared (ringOf m piece′ k)) (sym round-same ∙ e))
 
@@ -68,7 +72,7 @@ module _ (m : RouteBook) (good : wellFormed m ≡ true) where
         where
           touched : (q : ℕ) → touches (over (network m) piece) (ringOf m piece k) q ≡ touches (over (network m) piece′) (ringOf m piece k) q
           touched =
-              touches-alike (over (network m) piece) (over (network m) piece′) (others m piece k) (others m piece k) (over-alike (others m piece k)) (ringOf m piece k)
+              touches-alike (over (network m) piece) (over (network m) piece′) free free (over-alike free) (ringOf m piece k)
               (ring-below m piece k l h)
 
           label : lowestLabel m piece (ringOf m piece k) ≡ lowestLabel m piece′ (ringOf m piece k)
@@ -79,7 +83,8 @@ module _ (m : RouteBook) (good : wellFormed m ≡ true) where
     taken-same : taken m piece ≡ taken m piece′
     unfolding taken
     taken-same =
-        first-alike (merges m piece) (merges m piece′) (λ j. j) (λ j. j) (length (m .lightpaths)) (length (m .lightpaths)) 0 (λ j a b. (merges-same j (omega arith), refl))
+        first-alike (merges m piece) (merges m piece′) (λ j. j) (λ j. j) (length (m .lightpaths)) (length (m .lightpaths)) 0
+        (λ j a b. (merges-same j (omega arith), refl))
 
   -- pieces hold together by the labels of nodes
   pub hold-same : (piece piece′ : ℕ → ℕ) → Same piece piece′ → HoldTogether m piece → HoldTogether m piece′
@@ -108,7 +113,8 @@ module _ (m : RouteBook) (good : wellFormed m ≡ true) where
   contract-same (suc f) piece piece′ same i q =
       turn (λ l. contract-same f (after m piece) (after m piece′) (after-same piece piece′ same l) i q) (decLt (taken m piece) (length (m .lightpaths)))
     where
-      turn : (Takes m piece → contract m f (after m piece) i ≡ contract m f (after m piece′) i) → Dec (Takes m piece) → contract m (suc f) piece i ≡ contract m (suc f) piece′ i
+      turn : (Takes m piece → contract m f (after m piece) i ≡ contract m f (after m piece′) i)
+          → Dec (Takes m piece) → contract m (suc f) piece i ≡ contract m (suc f) piece′ i
       turn ih (yes l) =
           ap (λ (g : ℕ → ℕ). g i) (contract-next m piece f l) ∙ ih l ∙ sym (ap (λ (g : ℕ → ℕ). g i) (contract-next m piece′ f (takes-same piece piece′ same l)))
       turn ih (no n) =
@@ -121,6 +127,7 @@ module _ (m : RouteBook) (good : wellFormed m ≡ true) where
   merges-in-same (suc f) piece piece′ same =
       turn (λ l. merges-in-same f (after m piece) (after m piece′) (after-same piece piece′ same l)) (decLt (taken m piece) (length (m .lightpaths)))
     where
-      turn : (Takes m piece → mergesIn m f (after m piece) ≡ mergesIn m f (after m piece′)) → Dec (Takes m piece) → mergesIn m (suc f) piece ≡ mergesIn m (suc f) piece′
+      turn : (Takes m piece → mergesIn m f (after m piece) ≡ mergesIn m f (after m piece′))
+          → Dec (Takes m piece) → mergesIn m (suc f) piece ≡ mergesIn m (suc f) piece′
       turn ih (yes l) = merges-next m piece f l ∙ ap suc (ih l) ∙ sym (merges-next m piece′ f (takes-same piece piece′ same l))
       turn ih (no n) = merges-end m piece (suc f) n ∙ sym (merges-end m piece′ (suc f) (λ l. n (takes-same piece′ piece (λ j b. sym (same j b)) l)))

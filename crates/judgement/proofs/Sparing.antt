@@ -131,7 +131,9 @@ module _ (S : ℕ → ℕ) where
       none e x q = le-leb (lostAt x ks) 1 (omega (arith, h .two x, ap (λ (n : ℕ). bit n x) e, bit-of-zero x))
 
       all : every (λ x. leb (lostAt x ks) 1) X ≡ true → t ≡ 0
-      all e = bit-ext X t 0 l (pow-pos X) (λ x q. omega (arith, h .two x, bit-of-zero x, leb-true (lostAt x ks) 1 (every-at (λ y. leb (lostAt y ks) 1) X e x q)))
+      all e =
+          bit-ext X t 0 l (pow-pos X)
+          (λ x q. omega (arith, h .two x, bit-of-zero x, leb-true (lostAt x ks) 1 (every-at (λ y. leb (lostAt y ks) 1) X e x q)))
 
 -- the routes of a well-formed book hold spans that there are
 among-lt : (n x : ℕ) (r : List ℕ) → below n r ≡ true → among x r ≡ true → x < n
@@ -173,10 +175,12 @@ module _ (m : RouteBook) (good : wellFormed m ≡ true) (piece : ℕ → ℕ) (k
     high k = getD (b .high) k 0
 
     low-lost : (x : ℕ) → x < 64 → lostAt low x ks ≡ lost (rides m x) ks
-    low-lost x l = lost-alike (λ k. has (low k) x) (rides m x) ks (λ k i. rw e (low-has m k x l ∙ route-rides m x (64 * 0 + x) k (there k i) (omega arith)))
+    low-lost x l =
+        lost-alike (λ k. has (low k) x) (rides m x) ks (λ k i. rw e (low-has m k x l ∙ route-rides m x (64 * 0 + x) k (there k i) (omega arith)))
 
     high-lost : (x i : ℕ) → i < 64 → 64 + i ≡ x → lostAt high i ks ≡ lost (rides m x) ks
-    high-lost x i l q = lost-alike (λ k. has (high k) i) (rides m x) ks (λ k j. rw e (high-has m k i l ∙ route-rides m x (64 * 1 + i) k (there k j) (omega arith)))
+    high-lost x i l q =
+        lost-alike (λ k. has (high k) i) (rides m x) ks (λ k j. rw e (high-has m k i l ∙ route-rides m x (64 * 1 + i) k (there k j) (omega arith)))
 
     -- THE LAW: no span carries two of the list exactly if the second word is nought, of the lower spans and of the upper
     pub sparing-words : {o t o′ t′ : ℕ} → Seen low ks o t → t < 2 ^ 64 → Seen high ks o′ t′ → t′ < 2 ^ 64 → sparing m piece ks ≡ (eqb t 0 && eqb t′ 0)
@@ -192,8 +196,10 @@ module _ (m : RouteBook) (good : wellFormed m ≡ true) (piece : ℕ → ℕ) (k
         into h =
             let all : Spared = sparing-iff .0 h in
             and-both
-            (sym one-low ∙ every-true (λ x. leb (lostAt low x ks) 1) 64 (λ x q. le-leb (lostAt low x ks) 1 (omega (arith, low-lost x q, all x))))
-            (sym one-high ∙ every-true (λ x. leb (lostAt high x ks) 1) 64 (λ x q. le-leb (lostAt high x ks) 1 (omega (arith, high-lost (64 + x) x q refl, all (64 + x)))))
+            (sym one-low ∙ every-true (λ x. leb (lostAt low x ks) 1) 64
+            (λ x q. le-leb (lostAt low x ks) 1 (omega (arith, low-lost x q, all x))))
+            (sym one-high ∙ every-true (λ x. leb (lostAt high x ks) 1) 64
+            (λ x q. le-leb (lostAt high x ks) 1 (omega (arith, high-lost (64 + x) x q refl, all (64 + x)))))
 
         back : (eqb t 0 && eqb t′ 0) ≡ true → sparing m piece ks ≡ true
         back h = sparing-iff .1 (λ x. go x (decLt x 64) (decLt x 128))
@@ -205,5 +211,6 @@ module _ (m : RouteBook) (good : wellFormed m ≡ true) (piece : ℕ → ℕ) (k
             go x (yes q) d = omega (arith, low-lost x q, leb-true (lostAt low x ks) 1 (every-at (λ y. leb (lostAt low y ks) 1) 64 (one-low ∙ both .0) x q))
             go x (no n) (yes q) =
                 let i : x - 64 < 64 = omega arith in
-                omega (arith, high-lost x (x - 64) i (omega arith), leb-true (lostAt high (x - 64) ks) 1 (every-at (λ y. leb (lostAt high y ks) 1) 64 (one-high ∙ both .1) (x - 64) i))
+                let u = every-at (λ y. leb (lostAt high y ks) 1) 64 (one-high ∙ both .1) (x - 64) i in
+                omega (arith, high-lost x (x - 64) i (omega arith), leb-true (lostAt high (x - 64) ks) 1 u)
             go x (no n) (no q) = omega (arith, beyond x (omega (arith, counts m good)))
