@@ -78,7 +78,7 @@ module _ (m : RouteBook) (piece : ℕ → ℕ) where
         spared = λ x q. leb-true _ _ (every-at (λ y. leb (lost (rides m y) (ringOf m piece k)) 1) (length (m .spans)) (c .1) x q);
       }
 
-  -- the ring is k and the first way round, where there is one
+  -- THE LAW of the ring: it is k and the first of all ways round, where there is one, and no lightpath stands in it twice
   module _ (k : ℕ) where
     abbrev net : Network
     net = over (network m) piece
