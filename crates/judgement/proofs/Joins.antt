@@ -1,4 +1,4 @@
--- THE SIDE of a node is the set of the nodes that are joined to it: a swept adds only what is joined, and a set that no swept enlarges holds, with one end
+-- THE SIDE of a node is the set of the nodes that are joined to it: a sweep adds only what is joined, and a set that no sweep enlarges holds, with one end
 -- of a lightpath that is up, the other. Whatever has grown so far is the one side, however it was grown.
 use Prim.Native.Nat.{ℕ, zero, suc, _+_, _^_, _<_, _≤_}
 use mathlib.Core.Path.{_≡_, refl, sym, ap, _∙_, subst}
@@ -16,17 +16,7 @@ use Rattle.book.proofs.Bits.{bit-iff, bit-ext, has-true, true-has, bit-one, bit
 use Rattle.book.proofs.Tests.{and-inv}
 use Rattle.judgement.specs.Network.{Network, Link, Joined, start, more, brought, grown, swept, settled, sideOf}
 use Rattle.judgement.specs.Inside.{Grows, none, by}
-
-or-l : {a : Bool} (b : Bool) → a ≡ true → (a || b) ≡ true
-or-l b e = ap (λ (q : Bool). q || b) e
-
-or-r : (a : Bool) {b : Bool} → b ≡ true → (a || b) ≡ true
-or-r true e = refl
-or-r false e = e
-
-or-inv : (a b : Bool) → (a || b) ≡ true → (a ≡ true) ⊎ (b ≡ true)
-or-inv true b e = inl refl
-or-inv false b e = inr e
+use Rattle.judgement.proofs.Tests.{or-l, or-r, or-inv}
 
 module _ (net : Network) (up : ℕ → Bool) where
   grow-le : (k m : ℕ) → m ≤ grown net up k m
@@ -46,7 +36,7 @@ module _ (net : Network) (up : ℕ → Bool) where
   sweep-le zero m = le-refl m
   sweep-le (suc k) m = le-trans (sweep-le k m) (grow-le k _)
 
-  -- a set that a whole swept leaves alone is left alone by each part of it
+  -- a set that a whole sweep leaves alone is left alone by each part of it
   part-same : (n m : ℕ) → swept net up n m ≡ m → (k : ℕ) → k < n → grown net up k m ≡ m
   unfolding swept
   part-same zero m e k l = absurd (omega arith)
@@ -163,7 +153,7 @@ module _ (net : Network) (up : ℕ → Bool) where
     pub growing-sweep : (s m : ℕ) → Growing W s m → Growing W s (swept net up (net .count) m)
     growing-sweep s m g = growing-on s g (sweep-grows (net .count) m (le-refl _))
 
-    -- each swept that adds makes the number larger
+    -- each sweep that adds makes the number larger
     sweep-more : (m : ℕ) → (swept net up (net .count) m ≡ m → ⊥) → m < swept net up (net .count) m
     sweep-more m ne = omega (arith, sweep-le (net .count) m)
 

@@ -1,4 +1,5 @@
 -- The laws of crate judgement; docs/PROMISES.md lists the theorems among them.
+pub mod Tests
 pub mod Sets
 pub mod Joins
 pub mod Alike
@@ -21,4 +22,17 @@ pub mod Arrays
 pub mod Apart
 pub mod Opened
 pub mod Demand
+pub mod Labels
+pub mod Pieces
+pub mod Lowest
+pub mod Sparing
+pub mod Rings
+pub mod Ways
+pub mod Rounds
+pub mod SameWays
+pub mod Distinct
+pub mod Merges
+pub mod Contracts
+pub mod NodeLabels
+pub mod Fewer
 pub mod Cards

@@ -1,14 +1,25 @@
 -- Sets of numbers below a width, as numbers: the lowest member, and how many there are, so that a set within another that has as many is the other.
 -- All of it is over the width, so that a side of one word and one of several rest on the same laws.
-use Prim.Native.Nat.{ℕ, zero, suc, _+_, _/_, _%_, _^_, _<_, _≤_, zero-le}
+use Prim.Native.Nat.{ℕ, zero, suc, _+_, _/_, _%_, _^_, _<_, _≤_, min, zero-le}
 use mathlib.Core.Path.{_≡_, refl, sym, ap, _∙_}
+use mathlib.Core.Logic.{_↔_}
 use native.Mathlib.Decide.{decLt, ℕ-discrete}
 use native.Mathlib.Omega.{arith}
-use lib.Arith.{lt-one}
+use lib.Arith.{lt-one, digits-mod}
+use lib.Bits.{bitAnd, and-shr, and-step}
 use lib.Count.{trailingZeros, under, ones, ones-step}
 use Rattle.book.specs.Bits.{bit}
-use Rattle.book.proofs.Bits.{bit-lt, bit-zero, bit-suc, bit-ext}
+use Rattle.book.proofs.Bits.{bit-lt, bit-zero, bit-suc, bit-of-zero, bit-iff, bit-ext}
 use Rattle.judgement.specs.Inside.{size}
+
+-- two sets below the width with the same members are equal
+pub set-same : (W a b : ℕ) → a < 2 ^ W → b < 2 ^ W → ((i : ℕ) → i < W → (bit a i ≡ 1) ↔ (bit b i ≡ 1)) → a ≡ b
+set-same W a b p q h = bit-ext W a b p q (λ i l. bit-iff a b i (h i l .0) (h i l .1))
+
+-- what two sets both hold
+pub bit-and : (a b i : ℕ) → bit (bitAnd a b) i ≡ min (bit a i) (bit b i)
+unfolding bit
+bit-and a b i = rw (and-shr, and-step) (digits-mod _ (omega arith))
 
 -- the lowest number in a set
 pub low-in : (k x : ℕ) → trailingZeros k x < k → bit x (trailingZeros k x) ≡ 1
@@ -57,7 +68,7 @@ module _ (a b : ℕ) (within : (i : ℕ) → bit a i ≡ 1 → bit b i ≡ 1) wh
   bit-le : (i : ℕ) → bit a i ≤ bit b i
   bit-le i = elim (ℕ-discrete (bit a i) 1) [ yes e ↦ omega (arith, e, within i e) | no n ↦ omega (arith, bit-lt a i) ]
 
-  size-le : (k : ℕ) → size k a ≤ size k b
+  pub size-le : (k : ℕ) → size k a ≤ size k b
   unfolding size
   size-le zero = zero-le
   size-le (suc k) = omega (arith, size-le k, bit-le k)
@@ -71,3 +82,16 @@ module _ (a b : ℕ) (within : (i : ℕ) → bit a i ≡ 1 → bit b i ≡ 1) wh
 
   pub size-same : (W : ℕ) → a < 2 ^ W → b < 2 ^ W → size W a ≡ size W b → a ≡ b
   size-same W p q e = bit-ext W a b p q (size-bits W e)
+
+  -- and fewer where it lacks one of the other's
+  pub size-less : (k i : ℕ) → i < k → bit a i ≡ 0 → bit b i ≡ 1 → size k a < size k b
+  size-less k i l p q = elim (decLt (size k a) (size k b)) [ yes y ↦ y | no n ↦ absurd (omega (arith, p, q, size-bits k (omega (arith, size-le k)) i l)) ]
+
+-- a set has at most as many members as the width, and one at least where it holds a number
+pub size-most : (k x : ℕ) → size k x ≤ k
+unfolding size
+size-most zero x = zero-le
+size-most (suc k) x = omega (arith, size-most k x, bit-lt x k)
+
+pub size-some : (k x i : ℕ) → i < k → bit x i ≡ 1 → 0 < size k x
+size-some k x i l e = omega (arith, size-less 0 x (λ j h. absurd (omega (arith, h, bit-of-zero j))) k i l (bit-of-zero i) e)

@@ -6,6 +6,9 @@ pub mod Judgement
 pub mod Cuts
 pub mod Meaning
 pub mod Answers
+pub mod Pieces
+pub mod Ways
+pub mod Contraction
 pub mod Arrays
 pub mod Inside
 pub mod Holding

@@ -39,6 +39,12 @@ pub enum Asked {
     Refused(u8, usize),
 }
 
+// The answer of `contract`: the verdict and how many merges were made, or a refusal's number and place.
+pub enum Contracted {
+    Told(Verdict, u16),
+    Refused(u8, usize),
+}
+
 // Judges choice n of a book.
 pub fn judge(s: &[u8], n: u32) -> Judged
     ensures { λ r. ⌜ r ≡ judgedOf (chosenOf (reading (now (s .entry))) n) ⌝ }
