@@ -132,6 +132,10 @@ impl Holding<'_> {
             self.same("judge", &[choice], judged, |s, out| {
                 face::judge(s, choice, out)
             });
+            let contracted = wanted::contracted(twin::contract(self.bytes, choice));
+            self.same("contract", &[choice], contracted, |s, out| {
+                face::contract(s, choice, out)
+            });
         }
         for &choice in &choices[1..] {
             let scored = wanted::scored(twin::score(self.bytes, choice));

@@ -36,7 +36,7 @@ fn wanted(arguments: &[String]) -> Option<(u64, &Path, Until)> {
 fn kind_name(operation: &str, kind: u64, number: u64) -> String {
     match (operation, kind) {
         (_, 0) => format!("refused {number}"),
-        ("judge", 1..=4) => ["OVER", "SPLIT", "CUT", "OK"][kind as usize - 1].to_string(),
+        ("judge" | "contract", 1..=4) => ["OVER", "SPLIT", "CUT", "OK"][kind as usize - 1].to_string(),
         ("search", 1..=3) => ["FOUND", "NONE", "MORE"][kind as usize - 1].to_string(),
         _ => "told".to_string(),
     }
@@ -67,9 +67,10 @@ fn save(folder: &Path, name: &str, bytes: &[u8], differences: &[String]) -> io::
 }
 
 /// The kinds of answer that an operation has beside the refusals of a book: how many are told, and the numbers of its own refusals.
-const KINDS: [(&str, u64, &[u64]); 6] = [
+const KINDS: [(&str, u64, &[u64]); 7] = [
     ("read", 1, &[]),
     ("judge", 4, &[12]),
+    ("contract", 4, &[12]),
     ("score", 1, &[12]),
     ("ask", 1, &[12, 13]),
     ("search", 3, &[]),
