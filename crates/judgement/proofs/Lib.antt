@@ -21,4 +21,5 @@ pub mod Arrays
 pub mod Apart
 pub mod Opened
 pub mod Demand
+pub mod Merging
 pub mod Cards

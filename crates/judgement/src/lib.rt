@@ -4,6 +4,7 @@ mod load;
 mod pairs;
 mod question;
 mod side;
+mod ways;
 
 use book::Answer;
 use book::choice;
