@@ -1,80 +1,80 @@
+-- The trail starts with lightpath k, which leads from its "to" to its "from". At each turn the way comes one round nearer.
+-- What is left of it gathers the rest of the ring: nothing at the end.
 use borrow.Author.Needs.{needs}
+use mathlib.Core.Path.{_≡_, sym, ap, _∙_, subst}
+use native.Mathlib.Omega.{arith}
+use Prim.Native.Nat.{ℕ, _-_, _≤_, _<_}
+use mathlib.Core.Bool.{Bool, false}
+use lib.ListN.{getD}
+use denote.Ref.{now}
+use Rattle.book.specs.Bits.{has}
+use Rattle.judgement.specs.Network.{Network}
+use Rattle.judgement.specs.Ways.{near, leads, lowestOf}
+use Rattle.judgement.specs.Inside.{netOf, Fits}
+use Rattle.judgement.specs.Merge.{but, nearerBy}
+use Rattle.judgement.specs.declared.ways.Trail.{Trail}
+use Rattle.judgement.proofs.Merging.{Trailing, trailing-start, trailing-leads, trailing-next, trailing-done}
 use Rattle.judgement.proofs.ways.ring_trail.Statement.{statement}
 use Rattle.judgement.proofs.ways.ring_trail.Tie as tie
-use Rattle.judgement.proofs.ways.ring_trail.Reads as reads
-use Rattle.judgement.proofs.ways.ring_trail.Lts as lts
-use Rattle.judgement.proofs.ways.Trail.by.Reads as by-reads
-use Rattle.judgement.proofs.ways.nearer.Reads as nearer-reads
 
 abbrev Inv-loop : tie.InvT-loop
-Inv-loop from to low high k n sets t₀ left₀ t left = ?
+Inv-loop from to low high k n sets t₀ left₀ t left = Trailing (netOf n from to) low high k left₀ left t
 
 abbrev μ-loop : tie.MeasureT-loop
-μ-loop from to low high k n sets t₀ left₀ t left = ?
+μ-loop from to low high k n sets t₀ left₀ t left = left
 
--- src/ways.rt:212:13
+few : (c : tie.After-sets Inv-loop μ-loop) → c .before .args .k < 96
+few c = let p = c .before .pre in omega (arith, p .0, p .1 .few)
+
 element-copy-out-by : tie.Need-element-copy-out-by Inv-loop μ-loop
-element-copy-out-by c = search needs
+element-copy-out-by c = few c
 
--- src/ways.rt:217:26
 element-copy-out-by-2 : tie.Need-element-copy-out-by-2 Inv-loop μ-loop
-element-copy-out-by-2 c = search needs
+element-copy-out-by-2 c = few (c .before)
 
--- src/ways.rt:217:35
 element-copy-out-by-3 : tie.Need-element-copy-out-by-3 Inv-loop μ-loop
-element-copy-out-by-3 c = search needs
+element-copy-out-by-3 c = few (c .before .before)
 
--- src/ways.rt:217:42
 mul-by : tie.Need-mul-by Inv-loop μ-loop
-mul-by c = search needs
+mul-by c = omega (arith, few (c .before .before .before))
 
--- src/ways.rt:217:42
 element-copy-out-by-4 : tie.Need-element-copy-out-by-4 Inv-loop μ-loop
-element-copy-out-by-4 c = search needs
+element-copy-out-by-4 c = omega (arith, few (c .before .before .before))
 
--- src/ways.rt:217:50
 mul-by-2 : tie.Need-mul-by-2 Inv-loop μ-loop
-mul-by-2 c = search needs
+mul-by-2 c = omega (arith, few (c .before .before .before .before))
 
--- src/ways.rt:217:50
 element-copy-out-by-5 : tie.Need-element-copy-out-by-5 Inv-loop μ-loop
-element-copy-out-by-5 c = search needs
+element-copy-out-by-5 c = omega (arith, few (c .before .before .before .before))
 
--- src/ways.rt:217:9
 by-requires : tie.Need-by-requires Inv-loop μ-loop
-by-requires c κs = search needs
+by-requires c κs = let fits = c .before .before .before .before .before .before .pre .1 in (fits .from-low _, fits .to-low _)
 
--- src/ways.rt:219:5
 loop-holds : tie.Need-loop-holds Inv-loop μ-loop
-loop-holds c = search needs
+loop-holds c =
+    let p = c .before .before .before .before .before .before .before .pre in
+    trailing-start _ _ _ _ (p .4) (p .3) (p .1 .from-low _) (p .5) (c .by .ensures)
 
--- src/ways.rt:220:9
 sub-left : tie.Need-sub-left Inv-loop μ-loop
 sub-left c = search needs
 
--- src/ways.rt:221:32
 mul-t32 : tie.Need-mul-t32 Inv-loop μ-loop
-mul-t32 c = search needs
+mul-t32 c = ?
 
--- src/ways.rt:221:32
 array-read-t35 : tie.Need-array-read-t35 Inv-loop μ-loop
-array-read-t35 c = search needs
+array-read-t35 c = ?
 
--- src/ways.rt:222:9
 nearer-requires : tie.Need-nearer-requires Inv-loop μ-loop
-nearer-requires c κs = search needs
+nearer-requires c κs = ?
 
--- src/ways.rt:219:5
 loop-less : tie.Need-loop-less Inv-loop μ-loop
 loop-less c = search needs
 
--- src/ways.rt:219:5
 loop-again : tie.Need-loop-again Inv-loop μ-loop
-loop-again c = search needs
+loop-again c = ?
 
--- src/ways.rt:196:1
 returns : tie.Need-returns Inv-loop μ-loop
-returns c = search needs
+returns c = trailing-done _ _ _ _ (c .before .loop .inv) (c .loop-test .left)
 
 pub ring-trail-spec : {M : Type 1} → statement M
 ring-trail-spec =
