@@ -234,6 +234,11 @@ module _ (net : Network) (free : ℕ → Bool) where
         pub rounding-all : 64 ≤ last → RoundsTo net free y x (record { sets = sets; last = last })
         rounding-all l = let z : 64 ≡ last = omega (arith, now .few) in told (ap (λ (n : ℕ). has (near net free y n) x) z)
 
+-- whether the last round met x
+pub last-met : {net : Network} {free : ℕ → Bool} {y x : ℕ} {r : Rounds} → RoundsTo net free y x r → {t : Bool} → t ≡ has (getD (r .sets) (r .last) 0) x
+    → has (near net free y (r .last)) x ≡ t
+last-met {x = x} {r = r} told e = ap (λ (m : ℕ). has m x) (sym (told .each (r .last) (le-refl _))) ∙ sym e
+
 module _ (net : Network) (low high : List ℕ) (k : ℕ) where
   -- the way is on: it has come to a piece of round `left`, and what is left of it gathers the rest of the ring
   pub record Trailing (last left : ℕ) (t : Trail) : Type 0 where
@@ -336,3 +341,18 @@ module _ (net : Network) (low high : List ℕ) (k : ℕ) where
             eq-eqb (trailOf net low high k .low .twice) 0 (ap (λ (u : Trail). u .low .twice) (sym e) ∙ l),
             eq-eqb (trailOf net low high k .high .twice) 0 (ap (λ (u : Trail). u .high .twice) (sym e) ∙ g),
           ) (ap (λ (u : Trail). Sparing (u .touched)) e)
+
+-- what an answer on one lightpath says of the test
+isRing : Ring → Bool
+isRing (Sparing s) = true
+isRing Nothing = false
+
+pub ring-hit : (b : Bool) (u : ℕ) {s : ℕ} → Sparing s ≡ cond b (Sparing u) Nothing → (b ≡ true) × (Sparing s ≡ Sparing u)
+unfolding isRing
+ring-hit true u e = (refl, e)
+ring-hit false u e = absurd (false≢true (ap isRing (sym e)))
+
+pub ring-miss : (b : Bool) (u : ℕ) → Nothing ≡ cond b (Sparing u) Nothing → b ≡ false
+unfolding isRing
+ring-miss true u e = absurd (false≢true (ap isRing e))
+ring-miss false u e = refl

@@ -1,50 +1,51 @@
+-- The lightpaths passed have no ring to merge, so the first of all that has one is the first of those left.
 use borrow.Author.Needs.{needs}
+use mathlib.Core.Path.{sym, _∙_}
+use Prim.Native.Nat.{_-_}
+use Rattle.judgement.specs.Inside.{netOf}
+use Rattle.judgement.specs.Merge.{mergesBy, ringAt}
+use Rattle.judgement.specs.declared.ways.Ring.the-variants.{Nothing}
+use Rattle.judgement.proofs.First.{Looking, looking-start, looking-next, looking-hit, looking-end}
+use Rattle.judgement.proofs.Merging.{ring-hit, ring-miss}
 use Rattle.judgement.proofs.ways.first_ring.Statement.{statement}
 use Rattle.judgement.proofs.ways.first_ring.Tie as tie
-use Rattle.judgement.proofs.ways.first_ring.Reads as reads
-use Rattle.judgement.proofs.ways.first_ring.Lts as lts
-use Rattle.judgement.proofs.ways.ring_of.Reads as ring-of-reads
 
 abbrev Inv-loop : tie.InvT-loop
-Inv-loop from to low high n k₀ k = ?
+Inv-loop from to low high n k₀ k = Looking (mergesBy (netOf n from to) low high) (ringAt (netOf n from to) low high) Nothing n k
 
 abbrev μ-loop : tie.MeasureT-loop
-μ-loop from to low high n k₀ k = ?
+μ-loop from to low high n k₀ k = n - k
 
--- src/ways.rt:280:5
 loop-holds : tie.Need-loop-holds Inv-loop μ-loop
-loop-holds c = search needs
+loop-holds c = looking-start _ _ _ _
 
--- src/ways.rt:281:13
 ring-of-requires : tie.Need-ring-of-requires Inv-loop μ-loop
 ring-of-requires c κs = search needs
 
--- src/ways.rt:282:30
 enum-known-ring : tie.Need-enum-known-ring Inv-loop μ-loop
 enum-known-ring c = search needs
 
--- src/ways.rt:283:13
 returns : tie.Need-returns Inv-loop μ-loop
-returns c = search needs
+returns c =
+    let hit = ring-hit _ _ (sym (c .before .ring .given .1) ∙ c .before .before .before .ring-of .ensures) in
+    hit .1 ∙ sym (looking-hit _ _ _ (c .before .before .before .before .before .loop .inv) (c .before .before .before .before .loop-test .taken) (hit .0))
 
 enum-told : tie.Need-enum-told Inv-loop μ-loop
 enum-told c = search needs
 
--- src/ways.rt:285:9
 add-k : tie.Need-add-k Inv-loop μ-loop
 add-k c = search needs
 
--- src/ways.rt:280:5
 loop-less : tie.Need-loop-less Inv-loop μ-loop
 loop-less c = search needs
 
--- src/ways.rt:280:5
 loop-again : tie.Need-loop-again Inv-loop μ-loop
-loop-again c = search needs
+loop-again c =
+    let miss = ring-miss _ _ (sym (c .enum-told .given .1) ∙ c .before .before .ring-of .ensures) in
+    looking-next _ _ _ (c .before .before .before .before .loop .inv) (c .before .before .before .loop-test .taken) miss
 
--- src/ways.rt:268:1
 returns-2 : tie.Need-returns-2 Inv-loop μ-loop
-returns-2 c = search needs
+returns-2 c = sym (looking-end _ _ _ (c .before .loop .inv) (c .loop-test .left))
 
 pub first-ring-spec : {M : Type 1} → statement M
 first-ring-spec =
