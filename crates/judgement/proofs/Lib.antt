@@ -22,4 +22,6 @@ pub mod Apart
 pub mod Opened
 pub mod Demand
 pub mod Merging
+pub mod Carried
+pub mod Labels
 pub mod Cards

@@ -31,7 +31,7 @@ pub widen-step : (net : Network) (free : ℕ → Bool) (old k : ℕ) → widen n
 unfolding widen spreadBy
 widen-step net free old k = ap (widen net free old) (add-one k)
 
-or-none : (a : Bool) → (a || false) ≡ a
+pub or-none : (a : Bool) → (a || false) ≡ a
 or-none true = refl
 or-none false = refl
 
@@ -58,6 +58,11 @@ or-r false e = e
 or-inv : (a b : Bool) → (a || b) ≡ true → (a ≡ true) ⊎ (b ≡ true)
 or-inv true b e = inl refl
 or-inv false b e = inr e
+
+-- all of a list are below n
+pub data Under (n : ℕ) : List ℕ → Type 0 where
+  nothing : Under n []
+  one-more : {k : ℕ} {ks : List ℕ} → k < n → Under n ks → Under n (k ∷ ks)
 
 -- the first that passes, where some number does: it is below the end, and passes
 passed : (t : ℕ → Bool) (n j : ℕ) → j < n → t j ≡ true → (lowestOf t n < n) × (t (lowestOf t n) ≡ true)
@@ -154,6 +159,18 @@ module _ (net : Network) (free : ℕ → Bool) where
     pub way-step : (n x : ℕ) → has (near net free y n) x ≡ false → way net free y (suc n) x ≡ stepOf n x ∷ way net free y n (far net free x (stepOf n x))
     unfolding way
     way-step n x h = ap (λ (b : Bool). cond b (way net free y n x) (stepOf n x ∷ way net free y n (far net free x (stepOf n x)))) h
+
+    -- every lightpath of a way is one of the network
+    pub way-under : (n x : ℕ) → bit (near net free y n) x ≡ 1 → Under (net .count) (way net free y n x)
+    unfolding way
+    way-under zero x h = nothing
+    way-under (suc n) x h = go (way-under n x) (way-under n (far net free x (stepOf n x))) (has (near net free y n) x) refl
+      where
+        go : (bit (near net free y n) x ≡ 1 → Under (net .count) (way net free y n x))
+            → (bit (near net free y n) (far net free x (stepOf n x)) ≡ 1 → Under (net .count) (way net free y n (far net free x (stepOf n x))))
+            → (b : Bool) → has (near net free y n) x ≡ b → Under (net .count) (cond b (way net free y n x) (stepOf n x ∷ way net free y n (far net free x (stepOf n x))))
+        go stay on true e = stay (true-has _ x e)
+        go stay on false e = let s = step-is n x e h in one-more (s .0) (on (s .1))
 
     near-kept : (n q : ℕ) → bit (near net free y n) q ≡ 1 → bit (near net free y (suc n)) q ≡ 1
     unfolding near

@@ -1,14 +1,23 @@
 -- What the private functions of the second engine tell each other: ways and rings in a network held in arrays, and labels in arrays.
-use Prim.Native.Nat.{ℕ, _<_, _≤_}
+use Prim.Native.Nat.{ℕ, _*_, _<_, _≤_}
 use mathlib.Core.Path.{_≡_}
 use mathlib.Core.List.{List, [], _∷_}
 use mathlib.Core.Bool.{Bool, true, cond, not, _&&_, _||_}
 use lib.Dec.{eqb}
 use lib.Bits.{bitOr, bitAnd}
 use lib.ListN.{length, getD}
+use Rattle.book.specs.declared.Book.{Book}
+use Rattle.book.specs.Book.{RouteBook, mostNodes}
+use Rattle.book.specs.Memory.{remade}
 use Rattle.book.specs.Bits.{has, put}
 use Rattle.judgement.specs.Network.{Network}
+use Rattle.judgement.specs.Judgement.{stations, lowest}
+use Rattle.judgement.specs.Pieces.{labels}
 use Rattle.judgement.specs.Ways.{lowestOf, near, leads, way}
+use Rattle.judgement.specs.Contraction.{mergesIn, pieces}
+use Rattle.judgement.specs.declared.Verdict.{Verdict}
+use Rattle.judgement.specs.declared.Verdict.the-variants.{Over, Split, Cut, Okay}
+use Rattle.judgement.specs.declared.merge.Pieces.{Pieces}
 use Rattle.judgement.specs.declared.ways.Rounds.{Rounds}
 use Rattle.judgement.specs.declared.ways.Carried.{Carried}
 use Rattle.judgement.specs.declared.ways.Trail.{Trail}
@@ -82,3 +91,45 @@ module _ (net : Network) (low high : List ℕ) where
 -- one step nearer, into the set m
 unfoldable pub nearerBy : Network → (ℕ → Bool) → List ℕ → List ℕ → ℕ → Trail → Trail
 nearerBy net free low high m t = cond (has m (t .at)) t (withPath net low high t (lowestOf (leads net free (t .at) m) (net .count)))
+
+-- the first k of n places by a function
+pub record Table (n : ℕ) (f : ℕ → ℕ) (k : ℕ) (r : List ℕ) : Type 0 where
+  pub long : length r ≡ n
+  pub each : (i : ℕ) → i < k → getD r i 0 ≡ f i
+
+-- the label q when the labels of a set are made one
+abbrev pub relabelled : ℕ → ℕ → ℕ → ℕ
+relabelled ring lowest q = cond (has ring q) lowest q
+
+-- the array has the labels of the nodes; no label is above its node, and none of a station is below the lowest station
+pub record Labelled (m : RouteBook) (piece : ℕ → ℕ) (label : List ℕ) : Type 0 where
+  pub long : length label ≡ 64
+  pub same : (i : ℕ) → i < 64 → getD label i 0 ≡ piece i
+  pub falls : (i : ℕ) → piece i ≤ i
+  pub above : (i : ℕ) → has (stations m) i ≡ true → lowest m ≤ piece i
+
+-- the pieces that the engine ends with, and how many merges that were
+pub record PiecesOf (m : RouteBook) (r : Pieces) : Type 0 where
+  pub labelled : Labelled m (pieces m) (r .label)
+  pub counted : r .merges ≡ mergesIn m (mostNodes * mostNodes) (λ i. i)
+
+-- the struct b with other ends and stations
+abbrev pub withEnds : Book → List ℕ → List ℕ → ℕ → Book
+withEnds b from to stations =
+    remade (b .nodes) (b .spans) (b .lightpaths) (b .alternatives) stations (b .left) (b .right) (b .limit) from to (b .owner) (b .len) (b .route) (b .low) (b .high)
+
+pub record OverPieces (b : Book) (label : List ℕ) (r : Book) : Type 0 where
+  pub is : r ≡ withEnds b (r .from) (r .to) (r .stations)
+  pub from : Table 96 (λ k. getD label (getD (b .from) k 0) 0) 96 (r .from)
+  pub to : Table 96 (λ k. getD label (getD (b .to) k 0) 0) 96 (r .to)
+  pub stations : r .stations ≡ labels (has (b .stations)) (λ i. getD label i 0) 64
+
+-- a side over pieces given in stations, and a verdict with its side given so
+abbrev pub inStationsBy : ℕ → List ℕ → ℕ → ℕ
+inStationsBy stations label side = labels (λ i. has stations i && has side (getD label i 0)) (λ i. i) 64
+
+abbrev pub givenIn : ℕ → List ℕ → Verdict → Verdict
+givenIn stations label (Over x l w) = Over x l w
+givenIn stations label (Split d) = Split (inStationsBy stations label d)
+givenIn stations label (Cut x d) = Cut x (inStationsBy stations label d)
+givenIn stations label Okay = Okay

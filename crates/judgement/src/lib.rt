@@ -1,6 +1,7 @@
 // The judgement of a choice of routes: loads, sides, the verdict, the question about a span, and the score. docs/JUDGEMENT.md says what each is.
 pub mod kind;
 mod load;
+mod merge;
 mod pairs;
 mod question;
 mod side;
