@@ -24,4 +24,6 @@ pub mod Demand
 pub mod Merging
 pub mod Carried
 pub mod Labels
+pub mod Engine
+pub mod Over
 pub mod Cards

@@ -1,6 +1,6 @@
 -- The second engine's steps: a round by its lightpaths, when the rounds may stop, what a way gathers, and what a merge does to the labels.
 -- Each is what one private function of the engine relies on; the laws of the whole are the definitions' own.
-use Prim.Native.Nat.{ℕ, zero, suc, _+_, _-_, _*_, _^_, _<_, _≤_, min, max}
+use Prim.Native.Nat.{ℕ, zero, suc, _+_, _-_, _*_, _^_, _<_, _≤_, zero-le}
 use mathlib.Core.Path.{_≡_, refl, sym, ap, ap₂, _∙_, subst}
 use mathlib.Core.List.{List, [], _∷_}
 use mathlib.Core.Logic.{_⊎_, inl, inr, ⊎-elim}
@@ -9,22 +9,23 @@ use native.Mathlib.Numerals.{add-one}
 use native.Mathlib.Nat.{le-refl}
 use native.Mathlib.Decide.{ℕ-discrete, decLt}
 use native.Mathlib.Omega.{arith}
-use lib.Dec.{eqb}
+use lib.Dec.{eqb, ltb}
 use lib.ListN.{length, getD, set, length-set}
 use lib.Seq.{getD-set-same, getD-set-other}
-use borrow.Author.Tests.{eqb-true, eqb-false, eq-eqb, ne-eqb}
+use borrow.Author.Tests.{eqb-true, eqb-false, eq-eqb, ne-eqb, lt-ltb, le-ltb}
 use Rattle.book.specs.Bits.{bit, has, put}
 use Rattle.book.proofs.Bits.{has-true, true-has, put-same, put-keeps, put-inv, bit-one, bit-other, put-zero}
 use Rattle.book.proofs.Tests.{and-inv, and-both}
 use Rattle.judgement.specs.Network.{Network}
-use Rattle.judgement.specs.Judgement.{firstOf}
+use Rattle.judgement.specs.Judgement.{firstOf, sum}
 use Rattle.judgement.specs.Ways.{lowestOf, widen, near, leads, far, way}
 use Rattle.judgement.specs.Merge.{but, spreadBy, leadsBy, RoundsTo, withPath, gathered, emptyTrail, nearerBy, trailOf, mergesBy, ringAt}
 use Rattle.judgement.specs.declared.ways.Rounds.{Rounds}
 use Rattle.judgement.specs.declared.ways.Trail.{Trail}
 use Rattle.judgement.specs.declared.ways.Ring.{Ring}
 use Rattle.judgement.specs.declared.ways.Ring.the-variants.{Sparing, Nothing}
-use Rattle.judgement.proofs.First.{First, there, nowhere, first}
+use Rattle.judgement.proofs.First.{First, there, nowhere, first, first-only}
+use Rattle.judgement.proofs.Sums.{sum-le}
 
 -- one lightpath of a round
 pub widen-step : (net : Network) (free : ℕ → Bool) (old k : ℕ) → widen net free old (k + 1) ≡ spreadBy (free k) old (net .from k) (net .to k) (widen net free old k)
@@ -48,14 +49,14 @@ leads-first x m a b free e = rw (free, eq-eqb a x e) (go (eqb b x) refl)
         twice false = refl
     go false f = sym (or-none (has m b))
 
-or-l : {a : Bool} (b : Bool) → a ≡ true → (a || b) ≡ true
+pub or-l : {a : Bool} (b : Bool) → a ≡ true → (a || b) ≡ true
 or-l b e = ap (λ (q : Bool). q || b) e
 
-or-r : (a : Bool) {b : Bool} → b ≡ true → (a || b) ≡ true
+pub or-r : (a : Bool) {b : Bool} → b ≡ true → (a || b) ≡ true
 or-r true e = refl
 or-r false e = e
 
-or-inv : (a b : Bool) → (a || b) ≡ true → (a ≡ true) ⊎ (b ≡ true)
+pub or-inv : (a b : Bool) → (a || b) ≡ true → (a ≡ true) ⊎ (b ≡ true)
 or-inv true b e = inl refl
 or-inv false b e = inr e
 
@@ -71,6 +72,39 @@ passed t n j l e = go (first t (λ k. k) n n 0)
     go : {v : ℕ} → First t (λ k. k) n n 0 v → (v < n) × (t v ≡ true)
     go (there x a b h below) = (omega arith, h)
     go (nowhere none) = absurd (false≢true (sym (none j (omega arith) (omega arith)) ∙ e))
+
+-- the lowest that passes passes, and is not above any that does
+pub lowest-passes : (t : ℕ → Bool) (n : ℕ) → lowestOf t n < n → t (lowestOf t n) ≡ true
+lowest-passes t n = go (first t (λ k. k) n n 0)
+  where
+    go : {v : ℕ} → First t (λ k. k) n n 0 v → v < n → t v ≡ true
+    go (there x a b h below) l = h
+    go (nowhere none) l = absurd (omega arith)
+
+pub lowest-le : (t : ℕ → Bool) (n q : ℕ) → t q ≡ true → lowestOf t n ≤ q
+lowest-le t n q e = go (first t (λ k. k) n n 0)
+  where
+    go : {v : ℕ} → First t (λ k. k) n n 0 v → v ≤ q
+    go (there x a b h below) = elim (decLt q x) [ yes l ↦ absurd (false≢true (sym (below q zero-le l) ∙ e)) | no l ↦ omega arith ]
+    go (nowhere none) = elim (decLt q n) [ yes l ↦ absurd (false≢true (sym (none q zero-le (omega arith)) ∙ e)) | no l ↦ omega arith ]
+
+-- the answer at the lowest that passes, or else `out`
+pub first-lowest : {A : Type 0} (t : ℕ → Bool) (f : ℕ → A) (out : A) (n : ℕ) → firstOf t f out n 0 ≡ cond (ltb (lowestOf t n) n) (f (lowestOf t n)) out
+first-lowest {A} t f out n = go (first t (λ k. k) n n 0)
+  where
+    go : {v : ℕ} → First t (λ k. k) n n 0 v → firstOf t f out n 0 ≡ cond (ltb v n) (f v) out
+    go (there x a b h below) = sym (first-only t f out n 0 (there x a b h below)) ∙ sym (ap (λ (q : Bool). cond q (f x) out) (lt-ltb x n (omega arith)))
+    go (nowhere none) = sym (first-only t f out n 0 (nowhere none)) ∙ sym (ap (λ (q : Bool). cond q (f n) out) (le-ltb n n (le-refl n)))
+
+-- terms that are no greater, and one that is less
+pub sum-less : (f g : ℕ → ℕ) (n i : ℕ) → ((j : ℕ) → j < n → f j ≤ g j) → i < n → f i < g i → sum f n < sum g n
+unfolding sum
+sum-less f g zero i h l q = absurd (omega arith)
+sum-less f g (suc n) i h l q = go (λ z. sum-less f g n i (λ j r. h j (omega arith)) z q) (ℕ-discrete i n)
+  where
+    go : (i < n → sum f n < sum g n) → Dec (i ≡ n) → sum f n + f n < sum g n + g n
+    go ih (yes y) = let r : f n < g n = subst (λ (j : ℕ). f j < g j) y q in omega (arith, sum-le f g n (λ j r. h j (omega arith)))
+    go ih (no z) = omega (arith, ih (omega arith), h n (omega arith))
 
 module _ (net : Network) (free : ℕ → Bool) where
   widen-kept : (old n q : ℕ) → bit old q ≡ 1 → bit (widen net free old n) q ≡ 1
@@ -373,3 +407,6 @@ pub ring-miss : (b : Bool) (u : ℕ) → Nothing ≡ cond b (Sparing u) Nothing 
 unfolding isRing
 ring-miss true u e = absurd (false≢true (ap isRing e))
 ring-miss false u e = refl
+
+pub ring-same : {s u : ℕ} → Sparing s ≡ Sparing u → s ≡ u
+ring-same e = cc

@@ -90,14 +90,12 @@ fn pieces_of(b: Book) -> Pieces
     let n = b.lightpaths as usize;
     let starts = b.from;
     let ends = b.to;
-    let low = b.low;
-    let high = b.high;
     let mut label = singles();
     let mut merges: u16 = 0;
     loop {
         let from = end_labels(starts, label);
         let to = end_labels(ends, label);
-        let ring = ways::first_ring(&from, &to, &low, &high, n);
+        let ring = ways::first_ring(&from, &to, &b.low, &b.high, n);
         match ring {
             Ring::Sparing(touched) => {
                 let next = relabel(label, Side { mask: touched });

@@ -1,44 +1,41 @@
+-- A span over its limit is the answer, with no merge; else the pieces are made and what is left is judged. Both are one search, whose last answer is that.
 use borrow.Author.Needs.{needs}
+use mathlib.Core.Path.{_≡_, sym, ap, ap₂, _∙_}
+use Rattle.judgement.specs.Pieces.{splitOver}
+use Rattle.judgement.specs.Contraction.{pieces, mergesIn}
+use Rattle.judgement.specs.declared.Contracted.the-variants.{Told}
+use Rattle.judgement.proofs.Usable.{held-usable}
+use Rattle.judgement.proofs.Over.{overFirst, contracted-is}
 use Rattle.judgement.proofs.merge.contracted_of.Statement.{statement}
 use Rattle.judgement.proofs.merge.contracted_of.Tie as tie
-use Rattle.judgement.proofs.merge.contracted_of.Reads as reads
-use Rattle.judgement.proofs.merge.contracted_of.Lts as lts
-use Rattle.judgement.proofs.load.first_over.Reads as first-over-reads
-use Rattle.judgement.proofs.load.loads_of.Reads as loads-of-reads
-use Rattle.judgement.proofs.merge.judged_over.Reads as judged-over-reads
-use Rattle.judgement.proofs.merge.pieces_of.Reads as pieces-of-reads
 
--- src/merge.rt:217:9
 loads-of-requires : tie.Need-loads-of-requires
-loads-of-requires c κs = ?
+loads-of-requires c κs = held-usable (c .pre)
 
--- src/merge.rt:218:9
 first-over-requires : tie.Need-first-over-requires
-first-over-requires c κs = ?
+first-over-requires c κs = (held-usable (c .before .pre), c .loads-of .ensures)
 
--- src/merge.rt:220:22
 enum-known-first : tie.Need-enum-known-first
 enum-known-first c = search needs
 
--- src/merge.rt:222:17
 enum-told : tie.Need-enum-told
 enum-told c = search needs
 
--- src/merge.rt:222:17
 pieces-of-requires : tie.Need-pieces-of-requires
 pieces-of-requires c κs = search needs
 
--- src/merge.rt:224:17
 judged-over-requires : tie.Need-judged-over-requires
-judged-over-requires c κs = ?
+judged-over-requires c κs = (c .before .before .before .before .before .before .pre, λ m e good. c .before .pieces-of .ensures m e good .labelled)
 
--- src/merge.rt:213:1
 returns : tie.Need-returns
-returns c = ?
+returns c m e good =
+    ap (overFirst (splitOver m (pieces m)) (mergesIn m 4096 (λ i. i))) (sym (c .before .first .given .1)) ∙ contracted-is m good e (c .before .before .before .first-over .ensures)
 
--- src/merge.rt:213:1
 returns-2 : tie.Need-returns-2
-returns-2 c = ?
+returns-2 c m e good =
+    ap₂ Told (c .judged-over .ensures m e good) (c .before .before .pieces-of .ensures m e good .counted)
+    ∙ ap (overFirst (splitOver m (pieces m)) (mergesIn m 4096 (λ i. i))) (sym (c .before .before .before .enum-told .given .1))
+    ∙ contracted-is m good e (c .before .before .before .before .before .first-over .ensures)
 
 pub contracted-of-spec : {M : Type 1} → statement M
 contracted-of-spec =
