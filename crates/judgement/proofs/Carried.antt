@@ -1,37 +1,34 @@
 -- WHAT A RING GATHERS: the pieces that its lightpaths end at, and whether some span carries two of them. Two words, what was seen once and what was seen
 -- twice, tell that of all spans at a time, so that the tests of the engine are those of the definition.
-use Prim.Native.Nat.{ℕ, zero, suc, _+_, _-_, _*_, _^_, _<_, _≤_, _/_, _%_, min, max}
-use mathlib.Core.Path.{_≡_, refl, sym, ap, ap₂, _∙_, subst, fun-ext}
+use Prim.Native.Nat.{ℕ, _+_, _-_, _*_, _^_, _<_, _≤_, _/_, _%_, min}
+use mathlib.Core.Path.{_≡_, refl, sym, ap, _∙_, subst, fun-ext}
 use mathlib.Core.List.{List, [], _∷_}
-use mathlib.Core.Bool.{Bool, true, false, cond, not, _&&_, _||_, false≢true}
-use native.Mathlib.Nat.{min-zero, max-zero}
+use mathlib.Core.Bool.{Bool, true, false, not, _&&_, _||_}
 use native.Mathlib.Decide.{ℕ-discrete, decLt}
 use native.Mathlib.Omega.{arith}
-use lib.Arith.{digits-mod}
-use lib.Bits.{bitOr, bitAnd, and-shr, and-step, and-le-r, or-lt}
+use lib.Bits.{bitAnd, and-le-r, or-lt}
 use lib.Dec.{eqb, leb, ltb}
 use lib.Pow.{pow-pos}
 use lib.ListN.{length, getD}
-use borrow.Author.Tests.{eqb-true, eqb-false, eq-eqb, ne-eqb, leb-true, le-leb, ltb-true, not-false}
-use Rattle.book.specs.Book.{RouteBook, among, below, lengthFits, lightpathEnds, routeFits, routeWalks, wellFormed}
+use borrow.Author.Tests.{eqb-true, eqb-false, eq-eqb, ne-eqb, leb-true, le-leb, ltb-true}
+use Rattle.book.specs.Book.{RouteBook, among, below, lengthFits, lightpathEnds, wellFormed}
 use Rattle.book.specs.Bits.{bit, has, put, putIf, wordInto, spanWord}
 use Rattle.book.specs.Choice.{lightpathAt}
 use Rattle.book.specs.Memory.{routesOf, bookOf}
-use Rattle.book.proofs.Bits.{bit-lt, bit-of-zero, bit-or, bit-ext, has-true, has-false, true-has, put-same, put-other, put-lt}
+use Rattle.book.proofs.Bits.{bit-of-zero, bit-ext, has-false, true-has, put-same, put-other, put-lt}
 use Rattle.book.proofs.Bounds.{counts, lightpath-fits}
 use Rattle.book.proofs.Lightpaths.{column-at}
-use Rattle.book.proofs.Tests.{and-inv, and-both}
+use Rattle.book.proofs.Tests.{and-inv}
 use Rattle.book.proofs.Words.{low-has, high-has}
 use Rattle.judgement.specs.Network.{Network}
 use Rattle.judgement.specs.Judgement.{rides, network}
 use Rattle.judgement.specs.Pieces.{over}
-use Rattle.judgement.specs.Ways.{near, way}
-use Rattle.judgement.specs.Contraction.{lost, touches, every, others, round, ringOf, sparing, merges}
+use Rattle.judgement.specs.Contraction.{lost, touches, every, round, ringOf, sparing, merges}
 use Rattle.judgement.specs.Merge.{but, seenBy, withPath, gathered, emptyTrail, ringBy, trailOf, mergesBy}
 use Rattle.judgement.specs.declared.ways.Carried.{Carried}
 use Rattle.judgement.specs.declared.ways.Trail.{Trail}
 use Rattle.judgement.proofs.Held.{route-rides}
-use Rattle.judgement.proofs.Merging.{Under, nothing, one-more, way-under, or-none}
+use Rattle.judgement.proofs.Merging.{or-none, one-more, way-under, Seen, seen-none, seen-more, lost-bit, lost-alike, lost-none, every-true, every-at}
 
 has-put : (x i j : ℕ) → has (put x i) j ≡ (eqb i j || has x j)
 unfolding has
@@ -84,44 +81,6 @@ module _ (net : Network) (low high : List ℕ) where
   high-seen [] t = refl
   high-seen (k ∷ ks) t = high-seen ks (withPath net low high t k)
 
-bit-and : (a b i : ℕ) → bit (bitAnd a b) i ≡ min (bit a i) (bit b i)
-unfolding bit
-bit-and a b i = rw (and-shr, and-step) (digits-mod _ (omega arith))
-
--- `once` has what was counted at least once, and `twice` what was counted at least twice
-record Seen (c : ℕ → ℕ) (s : Carried) : Type 0 where
-  once-is : (x : ℕ) → bit (s .once) x ≡ min 1 (c x)
-  twice-is : (x : ℕ) → bit (s .twice) x ≡ min 1 (c x - 1)
-
-one-min : (c : ℕ) → min (min 1 (suc c)) 1 ≡ 1
-one-min c = omega arith
-
-one-max : (c : ℕ) → max (min 1 c) 1 ≡ 1
-one-max c = omega arith
-
-one-sum : (c : ℕ) → 1 ≡ min 1 (1 + suc c - 1)
-one-sum c = omega arith
-
-two-step : (s c : ℕ) → s < 2 → max (min 1 (c - 1)) (min (min 1 c) s) ≡ min 1 (s + c - 1)
-two-step zero c l = rw (min-zero (min 1 c), max-zero (min 1 (c - 1))) (omega arith)
-two-step (suc zero) zero l = omega arith
-two-step (suc zero) (suc c) l = ap (max (min 1 (suc c - 1))) (one-min c) ∙ one-max (suc c - 1) ∙ one-sum c
-two-step (suc (suc s)) c l = absurd (omega arith)
-
-seen-more : (c : ℕ → ℕ) (s : Carried) (w : ℕ) → Seen c s → Seen (λ x. bit w x + c x) (seenBy s w)
-seen-more c s w h = record {
-  once-is = λ x. omega (arith, bit-or (s .once) w x, h .once-is x, bit-lt w x);
-  twice-is = λ x. rw (bit-or (s .twice) (bitAnd (s .once) w) x, bit-and (s .once) w x, h .once-is x, h .twice-is x) (two-step (bit w x) (c x) (bit-lt w x));
-}
-
-lost-bit : (S : ℕ → ℕ) (x k : ℕ) (ks : List ℕ) → lost (λ j. has (S j) x) (k ∷ ks) ≡ bit (S k) x + lost (λ j. has (S j) x) ks
-unfolding lost
-lost-bit S x k ks = go (has (S k) x) refl
-  where
-    go : (b : Bool) → has (S k) x ≡ b → cond b (suc (lost (λ j. has (S j) x) ks)) (lost (λ j. has (S j) x) ks) ≡ bit (S k) x + lost (λ j. has (S j) x) ks
-    go true e = omega (arith, true-has (S k) x e)
-    go false e = elim (ℕ-discrete (bit (S k) x) 1) [ yes y ↦ absurd (false≢true (sym e ∙ has-true (S k) x y)) | no z ↦ omega (arith, bit-lt (S k) x) ]
-
 seen-all : (S : ℕ → ℕ) (ks : List ℕ) (c : ℕ → ℕ) (s : Carried) → Seen c s → Seen (λ x. lost (λ j. has (S j) x) ks + c x) (seenAll S ks s)
 unfolding seenAll lost
 seen-all S [] c s h = subst (λ (d : ℕ → ℕ). Seen d s) (fun-ext (λ x. omega arith)) h
@@ -129,30 +88,12 @@ seen-all S (k ∷ ks) c s h =
     subst (λ (d : ℕ → ℕ). Seen d (seenAll S ks (seenBy s (S k)))) (fun-ext (λ x. omega (arith, lost-bit S x k ks)))
     (seen-all S ks (λ x. bit (S k) x + c x) (seenBy s (S k)) (seen-more c s (S k) h))
 
-seen-none : Seen (λ x. 0) (record { once = 0; twice = 0 })
-seen-none = record { once-is = λ x. bit-of-zero x; twice-is = λ x. bit-of-zero x }
-
 seen-lt : (W : ℕ) (S : ℕ → ℕ) → ((k : ℕ) → S k < 2 ^ W) → (ks : List ℕ) (s : Carried) → s .once < 2 ^ W → s .twice < 2 ^ W → seenAll S ks s .twice < 2 ^ W
 unfolding seenAll
 seen-lt W S h [] s a b = b
 seen-lt W S h (k ∷ ks) s a b =
     seen-lt W S h ks (seenBy s (S k)) (or-lt W (s .once) (S k) a (h k))
     (or-lt W (s .twice) (bitAnd (s .once) (S k)) b (omega (arith, and-le-r (s .once) (S k), h k)))
-
--- every number below n passes exactly if each does
-every-true : (t : ℕ → Bool) (n : ℕ) → ((x : ℕ) → x < n → t x ≡ true) → every t n ≡ true
-unfolding every
-every-true t zero h = refl
-every-true t (suc n) h = and-both (h n (omega arith)) (every-true t n (λ x l. h x (omega arith)))
-
-every-at : (t : ℕ → Bool) (n : ℕ) → every t n ≡ true → (i : ℕ) → i < n → t i ≡ true
-unfolding every
-every-at t zero e i l = absurd (omega arith)
-every-at t (suc n) e i l = let b = and-inv {a = t n} e in go (b .0) (λ q. every-at t n (b .1) i q) (ℕ-discrete i n)
-  where
-    go : t n ≡ true → (i < n → t i ≡ true) → Dec (i ≡ n) → t i ≡ true
-    go a ih (yes y) = ap t y ∙ a
-    go a ih (no z) = ih (omega arith)
 
 -- no count of the first n is above one exactly if no bit of the words is set that has the counts above one, the first for those below 64
 module _ (n : ℕ) (c : ℕ → ℕ) (few : n ≤ 128) (past : (x : ℕ) → n ≤ x → c x ≡ 0) (l h : ℕ) (l-low : l < 2 ^ 64) (h-low : h < 2 ^ 64)
@@ -191,17 +132,6 @@ module _ (n : ℕ) (c : ℕ → ℕ) (few : n ≤ 128) (past : (x : ℕ) → n �
       go true e true f = every-true (λ x. leb (c x) 1) n (λ x q. le-leb (c x) 1 (noughts (eqb-true l 0 e) (eqb-true h 0 f) x q))
       go true e false f = not-all (λ g. eqb-false h 0 f (high-nought g))
       go false e b f = not-all (λ g. eqb-false l 0 e (low-nought g))
-
--- lightpaths that are out alike; none that is out
-lost-alike : (out out′ : ℕ → Bool) (n : ℕ) {ks : List ℕ} → Under n ks → ((k : ℕ) → k < n → out k ≡ out′ k) → lost out ks ≡ lost out′ ks
-unfolding lost
-lost-alike out out′ n nothing h = refl
-lost-alike out out′ n (one-more {k} {ks} l u) h = rw (h k l, lost-alike out out′ n u h)
-
-lost-none : (out : ℕ → Bool) (n : ℕ) {ks : List ℕ} → Under n ks → ((k : ℕ) → k < n → out k ≡ false) → lost out ks ≡ 0
-unfolding lost
-lost-none out n nothing h = refl
-lost-none out n (one-more {k} {ks} l u) h = rw (h k l) (lost-none out n u h)
 
 -- no route holds a number that no span has
 among-below : (n x : ℕ) (r : List ℕ) → below n r ≡ true → n ≤ x → among x r ≡ false

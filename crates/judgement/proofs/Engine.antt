@@ -17,18 +17,18 @@ use Rattle.book.specs.Memory.{bookOf}
 use Rattle.judgement.specs.Network.{Network}
 use Rattle.judgement.specs.Judgement.{network, lowest, firstOf, sum}
 use Rattle.judgement.specs.Pieces.{over}
-use Rattle.judgement.specs.Contraction.{ringOf, merges, taken, merged, contract, mergesIn, pieces}
+use Rattle.judgement.specs.Contraction.{ringOf, merges, taken, merged, contract, mergesIn}
 use Rattle.judgement.specs.Inside.{netOf, Fits}
 use Rattle.judgement.specs.Merge.{Table, relabelled, Labelled, PiecesOf, trailOf, mergesBy, ringAt}
-use Rattle.judgement.specs.declared.merge.Pieces.{Pieces}
 use Rattle.judgement.specs.declared.ways.Ring.{Ring}
 use Rattle.judgement.specs.declared.ways.Ring.the-variants.{Sparing, Nothing}
 use Rattle.judgement.proofs.First.{first-alike}
 use Rattle.judgement.proofs.Sums.{sum-most}
 use Rattle.judgement.proofs.Stations.{lowest-least}
-use Rattle.judgement.proofs.Merging.{lowest-passes, first-lowest, ring-hit, ring-miss, ring-same}
+use Rattle.judgement.proofs.Merging.{lowest-passes, first-lowest, ring-less}
+use Rattle.judgement.proofs.Trails.{ring-hit, ring-miss, ring-same}
 use Rattle.judgement.proofs.Carried.{merges-is}
-use Rattle.judgement.proofs.Labels.{label-low, net-is, labels-fit, ring-less, ring-labelled}
+use Rattle.judgement.proofs.Labels.{label-low, net-is, labels-fit, ring-labelled}
 
 -- one merge more, or none
 module _ (m : RouteBook) (piece : ℕ → ℕ) where
@@ -119,7 +119,7 @@ module _ (m : RouteBook) (fits : wellFormed m ≡ true) where
           let z : 4096 - made ≡ suc (4096 - (made + 1)) = omega (arith, now .light) in
           record {
             piece = after m (now .piece);
-            labelled = ring-labelled m fits (now .piece) next l ring (now .labelled) (bookOf m .low) (bookOf m .high) (ring-same (hit .1)) u;
+            labelled = ring-labelled m fits (now .piece) (now .labelled) next l ring (bookOf m .low) (bookOf m .high) (ring-same (hit .1)) u;
             left = sym (contract-next m (now .piece) (hit .0) (4096 - (made + 1))) ∙ ap (λ (d : ℕ). contract m d (now .piece)) (sym z) ∙ now .left;
             count = omega (arith, now .count, count-next m (now .piece) (hit .0) (4096 - (made + 1)), ap (λ (d : ℕ). mergesIn m d (now .piece)) z);
             light = omega (arith, now .light, ring-less m fits (now .piece) next l ring);

@@ -1,38 +1,36 @@
 -- LABELS IN ARRAYS: a table is filled place by place, and a set of labels node by node. The labels of the ends, in place of the ends, make the network over
 -- pieces; a merge makes no label greater and one less, and leaves each station's label no lower than the lowest station.
-use Prim.Native.Nat.{ℕ, zero, suc, _+_, _<_, _≤_, zero-le}
-use mathlib.Core.Path.{_≡_, refl, sym, ap, ap₂, _∙_, subst, fun-ext}
-use mathlib.Core.List.{List, [], map}
+use Prim.Native.Nat.{ℕ, _+_, _<_, _≤_, zero-le}
+use mathlib.Core.Path.{_≡_, refl, sym, ap, ap₂, _∙_, fun-ext}
+use mathlib.Core.List.{List, map}
 use mathlib.Core.Logic.{_⊎_, inl, inr}
-use mathlib.Core.Bool.{Bool, true, false, cond, not, _&&_, _||_, false≢true}
-use native.Mathlib.Nat.{le-refl}
+use mathlib.Core.Bool.{Bool, true, false, cond, _||_, false≢true}
 use native.Mathlib.Numerals.{add-one}
 use native.Mathlib.Decide.{ℕ-discrete, decLt}
 use native.Mathlib.Omega.{arith}
 use lib.Count.{trailingZeros, trailing-le}
-use lib.Dec.{eqb, ltb}
+use lib.Dec.{eqb}
 use lib.ListN.{length, getD, set, replicate, length-set, length-replicate, List·getD-eq-default}
 use lib.Seq.{getD-set-same, getD-set-other}
-use borrow.Author.Tests.{eqb-true, eq-eqb, lt-ltb, le-ltb}
+use borrow.Author.Tests.{eqb-true}
 use Rattle.book.specs.Book.{Lightpath, RouteBook, wellFormed}
-use Rattle.book.specs.Bits.{has, put, putIf}
+use Rattle.book.specs.Bits.{has, putIf}
 use Rattle.book.specs.Memory.{padded, bookOf}
-use Rattle.book.proofs.Bits.{has-true, has-false, true-has}
+use Rattle.book.proofs.Bits.{has-true, has-false}
 use Rattle.book.proofs.Bounds.{counts, ends-lt, ends-stations}
 use Rattle.book.proofs.Lightpaths.{column-at}
-use Rattle.book.proofs.Tests.{and-inv}
 use Rattle.book.proofs.Writers.{noLightpath}
 use Rattle.judgement.specs.Network.{Network}
-use Rattle.judgement.specs.Judgement.{network, stations, lowest, firstOf, sum}
+use Rattle.judgement.specs.Judgement.{network, stations, lowest}
 use Rattle.judgement.specs.Pieces.{over, labels}
 use Rattle.judgement.specs.Ways.{lowestOf}
-use Rattle.judgement.specs.Contraction.{touches, others, round, ringOf, sparing, merges, lowestLabel, merged}
+use Rattle.judgement.specs.Contraction.{touches, ringOf, merges, lowestLabel, merged}
 use Rattle.judgement.specs.Inside.{netOf, Fits}
-use Rattle.judgement.specs.Merge.{but, Table, relabelled, Labelled, trailOf}
-use Rattle.judgement.proofs.First.{First, there, nowhere, first, first-only}
+use Rattle.judgement.specs.Merge.{Table, relabelled, Labelled, trailOf}
+use Rattle.judgement.proofs.First.{there, nowhere, first-only}
 use Rattle.judgement.proofs.Sets.{low-in, low-below}
 use Rattle.judgement.proofs.Stations.{lowest-lt}
-use Rattle.judgement.proofs.Merging.{Under, nothing, one-more, way-under, or-l, or-r, or-inv, lowest-le, lowest-passes, sum-less}
+use Rattle.judgement.proofs.Merging.{or-inv, Under, nothing, one-more, lowest-passes, under, ring-le}
 use Rattle.judgement.proofs.Carried.{touched-is}
 
 module _ (n : ℕ) (f : ℕ → ℕ) where
@@ -120,91 +118,46 @@ lowest-first s = go (decLt (trailingZeros 64 s) 64)
         z ∙ first-only (has s) (λ k. k) 64 64 0 (nowhere (λ y a b. has-false s y (low-below 64 s y (omega arith))))
 
 -- a ring that is merged
-module _ (m : RouteBook) (fits : wellFormed m ≡ true) (piece : ℕ → ℕ) (k : ℕ) (l : k < length (m .lightpaths)) (ring : merges m piece k ≡ true) where
+module _ (m : RouteBook) (fits : wellFormed m ≡ true) (piece : ℕ → ℕ) {label : List ℕ} (now : Labelled m piece label) (k : ℕ) (l : k < length (m .lightpaths)) (ring : merges m piece k ≡ true) where
   abbrev net : Network
   net = over (network m) piece
 
-  parted : (piece (network m .from k) ≡ piece (network m .to k) → ⊥) × (round m piece k ≡ true)
-  unfolding merges
-  parted =
-      let a = and-inv {a = not (eqb (piece (network m .from k)) (piece (network m .to k)))} ring in
-      ((λ e. false≢true (sym (ap not (eq-eqb _ _ e)) ∙ a .0)), and-inv {a = round m piece k} (a .1) .0)
-
-  under : Under (length (m .lightpaths)) (ringOf m piece k)
-  under = one-more l (way-under net (but k) (net .to k) 64 (net .from k) (true-has _ _ (parted .1)))
-
-  touch-from : touches net (ringOf m piece k) (net .from k) ≡ true
+  -- what a ring touches is the label of some station
+  touch-above : {ks : List ℕ} → Under (length (m .lightpaths)) ks → (q : ℕ) → touches net ks q ≡ true → lowest m ≤ q
   unfolding touches
-  touch-from = or-l _ (or-l (eqb (net .to k) (net .from k)) (eq-eqb (net .from k) (net .from k) refl))
+  touch-above nothing q h = absurd (false≢true h)
+  touch-above (one-more {k = j} {ks = ks} r u) q h = go (touch-above u q) (or-inv _ _ h)
+    where
+      ends : (eqb (net .from j) q ≡ true) ⊎ (eqb (net .to j) q ≡ true) → lowest m ≤ q
+      ends (inl e) = omega (arith, eqb-true (net .from j) q e, now .above (network m .from j) (ends-stations m fits j r .0))
+      ends (inr e) = omega (arith, eqb-true (net .to j) q e, now .above (network m .to j) (ends-stations m fits j r .1))
 
-  touch-to : touches net (ringOf m piece k) (net .to k) ≡ true
-  unfolding touches
-  touch-to = or-l _ (or-r (eqb (net .from k) (net .to k)) (eq-eqb (net .to k) (net .to k) refl))
+      go : (touches net ks q ≡ true → lowest m ≤ q) → ((eqb (net .from j) q || eqb (net .to j) q) ≡ true) ⊎ (touches net ks q ≡ true) → lowest m ≤ q
+      go ih (inl e) = ends (or-inv (eqb (net .from j) q) (eqb (net .to j) q) e)
+      go ih (inr e) = ih e
 
-  -- no label rises
-  ring-le : (i : ℕ) → merged m piece (ringOf m piece k) i ≤ piece i
+  lowest-above : lowest m ≤ lowestLabel m piece (ringOf m piece k)
+  unfolding lowestLabel
+  lowest-above = go (decLt (lowestOf (touches net (ringOf m piece k)) 64) 64)
+    where
+      go : Dec (lowestOf (touches net (ringOf m piece k)) 64 < 64) → lowest m ≤ lowestOf (touches net (ringOf m piece k)) 64
+      go (yes q) = touch-above (under m fits piece k l ring) _ (lowest-passes (touches net (ringOf m piece k)) 64 q)
+      go (no q) = omega (arith, lowest-lt m fits)
+
+  -- THE LAW of a merge: the relabelled array has the merged labels
+  pub ring-labelled : (low high : List ℕ) {s : ℕ} {label′ : List ℕ} → s ≡ trailOf net low high k .touched
+      → Table 64 (λ i. relabelled s (trailingZeros 64 s) (getD label i 0)) 64 label′ → Labelled m (merged m piece (ringOf m piece k)) label′
   unfolding merged lowestLabel
-  ring-le i = go (touches net (ringOf m piece k) (piece i)) refl
+  ring-labelled low high {s} {label′} e t =
+      let same : (q : ℕ) → has s q ≡ touches net (ringOf m piece k) q = λ q. ap (λ (x : ℕ). has x q) e ∙ touched-is net low high k q in
+      let z : trailingZeros 64 s ≡ lowestOf (touches net (ringOf m piece k)) 64 = lowest-first s ∙ ap (λ (p : ℕ → Bool). lowestOf p 64) (fun-ext same) in
+      record {
+        long = t .long;
+        same = λ i q. t .each i q ∙ rw (now .same i q, same (piece i), z);
+        falls = λ i. omega (arith, ring-le m fits piece k l ring i, now .falls i);
+        above = λ i h. go i h (touches net (ringOf m piece k) (piece i));
+      }
     where
-      go : (b : Bool) → touches net (ringOf m piece k) (piece i) ≡ b → cond b (lowestOf (touches net (ringOf m piece k)) 64) (piece i) ≤ piece i
-      go true e = lowest-le (touches net (ringOf m piece k)) 64 (piece i) e
-      go false e = le-refl _
-
-  ring-at : (i : ℕ) → touches net (ringOf m piece k) (piece i) ≡ true → merged m piece (ringOf m piece k) i ≡ lowestLabel m piece (ringOf m piece k)
-  unfolding merged
-  ring-at i e = rw e
-
-  -- and one of the two labels of k falls
-  pub ring-less : sum (merged m piece (ringOf m piece k)) 64 < sum piece 64
-  ring-less = go (decLt (merged m piece (ringOf m piece k) (network m .from k)) (piece (network m .from k)))
-    where
-      go : Dec (merged m piece (ringOf m piece k) (network m .from k) < piece (network m .from k)) → sum (merged m piece (ringOf m piece k)) 64 < sum piece 64
-      go (yes q) = sum-less (merged m piece (ringOf m piece k)) piece 64 (network m .from k) (λ j z. ring-le j) (ends-lt m fits k l .0) q
-      go (no q) =
-          let a = ring-at (network m .from k) touch-from in
-          let b = ring-at (network m .to k) touch-to in
-          let c = ring-le (network m .from k) in
-          let d = ring-le (network m .to k) in
-          let e = parted .0 in
-          sum-less (merged m piece (ringOf m piece k)) piece 64 (network m .to k) (λ j z. ring-le j) (ends-lt m fits k l .1) (omega arith)
-
-  module _ {label : List ℕ} (now : Labelled m piece label) where
-    -- what a ring touches is the label of some station
-    touch-above : {ks : List ℕ} → Under (length (m .lightpaths)) ks → (q : ℕ) → touches net ks q ≡ true → lowest m ≤ q
-    unfolding touches
-    touch-above nothing q h = absurd (false≢true h)
-    touch-above (one-more {k = j} {ks = ks} r u) q h = go (touch-above u q) (or-inv _ _ h)
-      where
-        ends : (eqb (net .from j) q ≡ true) ⊎ (eqb (net .to j) q ≡ true) → lowest m ≤ q
-        ends (inl e) = omega (arith, eqb-true (net .from j) q e, now .above (network m .from j) (ends-stations m fits j r .0))
-        ends (inr e) = omega (arith, eqb-true (net .to j) q e, now .above (network m .to j) (ends-stations m fits j r .1))
-
-        go : (touches net ks q ≡ true → lowest m ≤ q) → ((eqb (net .from j) q || eqb (net .to j) q) ≡ true) ⊎ (touches net ks q ≡ true) → lowest m ≤ q
-        go ih (inl e) = ends (or-inv (eqb (net .from j) q) (eqb (net .to j) q) e)
-        go ih (inr e) = ih e
-
-    lowest-above : lowest m ≤ lowestLabel m piece (ringOf m piece k)
-    unfolding lowestLabel
-    lowest-above = go (decLt (lowestOf (touches net (ringOf m piece k)) 64) 64)
-      where
-        go : Dec (lowestOf (touches net (ringOf m piece k)) 64 < 64) → lowest m ≤ lowestOf (touches net (ringOf m piece k)) 64
-        go (yes q) = touch-above under _ (lowest-passes (touches net (ringOf m piece k)) 64 q)
-        go (no q) = omega (arith, lowest-lt m fits)
-
-    -- THE LAW of a merge: the relabelled array has the merged labels
-    pub ring-labelled : (low high : List ℕ) {s : ℕ} {label′ : List ℕ} → s ≡ trailOf net low high k .touched
-        → Table 64 (λ i. relabelled s (trailingZeros 64 s) (getD label i 0)) 64 label′ → Labelled m (merged m piece (ringOf m piece k)) label′
-    unfolding merged lowestLabel
-    ring-labelled low high {s} {label′} e t =
-        let same : (q : ℕ) → has s q ≡ touches net (ringOf m piece k) q = λ q. ap (λ (x : ℕ). has x q) e ∙ touched-is net low high k q in
-        let z : trailingZeros 64 s ≡ lowestOf (touches net (ringOf m piece k)) 64 = lowest-first s ∙ ap (λ (p : ℕ → Bool). lowestOf p 64) (fun-ext same) in
-        record {
-          long = t .long;
-          same = λ i q. t .each i q ∙ rw (now .same i q, same (piece i), z);
-          falls = λ i. omega (arith, ring-le i, now .falls i);
-          above = λ i h. go i h (touches net (ringOf m piece k) (piece i));
-        }
-      where
-        go : (i : ℕ) → has (stations m) i ≡ true → (b : Bool) → lowest m ≤ cond b (lowestOf (touches net (ringOf m piece k)) 64) (piece i)
-        go i h true = lowest-above
-        go i h false = now .above i h
+      go : (i : ℕ) → has (stations m) i ≡ true → (b : Bool) → lowest m ≤ cond b (lowestOf (touches net (ringOf m piece k)) 64) (piece i)
+      go i h true = lowest-above
+      go i h false = now .above i h

@@ -22,6 +22,7 @@ pub mod Apart
 pub mod Opened
 pub mod Demand
 pub mod Merging
+pub mod Trails
 pub mod Carried
 pub mod Labels
 pub mod Engine

@@ -1,53 +1,36 @@
--- The second engine's steps: a round by its lightpaths, when the rounds may stop, what a way gathers, and what a merge does to the labels.
--- Each is what one private function of the engine relies on; the laws of the whole are the definitions' own.
-use Prim.Native.Nat.{ℕ, zero, suc, _+_, _-_, _*_, _^_, _<_, _≤_, zero-le}
-use mathlib.Core.Path.{_≡_, refl, sym, ap, ap₂, _∙_, subst}
+-- Laws of ways and rings that the engine relies on: from what is met some lightpath leads nearer, the rounds may stop early, two words tell which spans are
+-- carried twice, and a merge makes the sum of the labels less.
+use Prim.Native.Nat.{ℕ, zero, suc, _+_, _-_, _<_, _≤_, zero-le, min, max}
+use mathlib.Core.Path.{_≡_, refl, sym, ap, _∙_, subst}
 use mathlib.Core.List.{List, [], _∷_}
 use mathlib.Core.Logic.{_⊎_, inl, inr, ⊎-elim}
 use mathlib.Core.Bool.{Bool, true, false, cond, not, _&&_, _||_, false≢true}
-use native.Mathlib.Numerals.{add-one}
-use native.Mathlib.Nat.{le-refl}
+use native.Mathlib.Nat.{le-refl, min-zero, max-zero}
 use native.Mathlib.Decide.{ℕ-discrete, decLt}
 use native.Mathlib.Omega.{arith}
 use lib.Dec.{eqb, ltb}
-use lib.ListN.{length, getD, set, length-set}
-use lib.Seq.{getD-set-same, getD-set-other}
-use borrow.Author.Tests.{eqb-true, eqb-false, eq-eqb, ne-eqb, lt-ltb, le-ltb}
+use lib.ListN.{length}
+use borrow.Author.Tests.{eqb-true, eq-eqb, lt-ltb, le-ltb}
 use Rattle.book.specs.Bits.{bit, has, put}
-use Rattle.book.proofs.Bits.{has-true, true-has, put-same, put-keeps, put-inv, bit-one, bit-other, put-zero}
+use Rattle.book.proofs.Bits.{has-true, true-has, put-keeps, put-inv, bit-lt, bit-of-zero, bit-or}
 use Rattle.book.proofs.Tests.{and-inv, and-both}
 use Rattle.judgement.specs.Network.{Network}
-use Rattle.judgement.specs.Judgement.{firstOf, sum}
+use Rattle.judgement.specs.Judgement.{firstOf, sum, network}
 use Rattle.judgement.specs.Ways.{lowestOf, widen, near, leads, far, way}
-use Rattle.judgement.specs.Merge.{but, spreadBy, leadsBy, RoundsTo, withPath, gathered, emptyTrail, nearerBy, trailOf, mergesBy, ringAt}
-use Rattle.judgement.specs.declared.ways.Rounds.{Rounds}
-use Rattle.judgement.specs.declared.ways.Trail.{Trail}
-use Rattle.judgement.specs.declared.ways.Ring.{Ring}
-use Rattle.judgement.specs.declared.ways.Ring.the-variants.{Sparing, Nothing}
+use Rattle.judgement.specs.Merge.{but, leadsBy, seenBy}
 use Rattle.judgement.proofs.First.{First, there, nowhere, first, first-only}
 use Rattle.judgement.proofs.Sums.{sum-le}
-
--- one lightpath of a round
-pub widen-step : (net : Network) (free : ℕ → Bool) (old k : ℕ) → widen net free old (k + 1) ≡ spreadBy (free k) old (net .from k) (net .to k) (widen net free old k)
-unfolding widen spreadBy
-widen-step net free old k = ap (widen net free old) (add-one k)
+use lib.Arith.{digits-mod}
+use lib.Bits.{bitAnd, and-shr, and-step}
+use Rattle.book.specs.Book.{RouteBook, below, wellFormed}
+use Rattle.book.proofs.Bounds.{ends-lt}
+use Rattle.judgement.specs.Pieces.{over}
+use Rattle.judgement.specs.Contraction.{lost, touches, every, round, ringOf, merges, lowestLabel, merged}
+use Rattle.judgement.specs.declared.ways.Carried.{Carried}
 
 pub or-none : (a : Bool) → (a || false) ≡ a
 or-none true = refl
 or-none false = refl
-
--- where the first end is x, the set has to have the second, whatever that is
-pub leads-first : {f : Bool} (x m a b : ℕ) → f ≡ true → a ≡ x → has m b ≡ leadsBy f x m a b
-unfolding leadsBy
-leads-first x m a b free e = rw (free, eq-eqb a x e) (go (eqb b x) refl)
-  where
-    go : (t : Bool) → eqb b x ≡ t → has m b ≡ (has m b || (t && has m a))
-    go true f = ap (λ (i : ℕ). has m i) (eqb-true b x f ∙ sym e) ∙ twice (has m a) ∙ ap (λ (i : ℕ). has m i || has m a) (e ∙ sym (eqb-true b x f))
-      where
-        twice : (q : Bool) → q ≡ (q || q)
-        twice true = refl
-        twice false = refl
-    go false f = sym (or-none (has m b))
 
 pub or-l : {a : Bool} (b : Bool) → a ≡ true → (a || b) ≡ true
 or-l b e = ap (λ (q : Bool). q || b) e
@@ -64,14 +47,6 @@ or-inv false b e = inr e
 pub data Under (n : ℕ) : List ℕ → Type 0 where
   nothing : Under n []
   one-more : {k : ℕ} {ks : List ℕ} → k < n → Under n ks → Under n (k ∷ ks)
-
--- the first that passes, where some number does: it is below the end, and passes
-passed : (t : ℕ → Bool) (n j : ℕ) → j < n → t j ≡ true → (lowestOf t n < n) × (t (lowestOf t n) ≡ true)
-passed t n j l e = go (first t (λ k. k) n n 0)
-  where
-    go : {v : ℕ} → First t (λ k. k) n n 0 v → (v < n) × (t v ≡ true)
-    go (there x a b h below) = (omega arith, h)
-    go (nowhere none) = absurd (false≢true (sym (none j (omega arith) (omega arith)) ∙ e))
 
 -- the lowest that passes passes, and is not above any that does
 pub lowest-passes : (t : ℕ → Bool) (n : ℕ) → lowestOf t n < n → t (lowestOf t n) ≡ true
@@ -105,6 +80,19 @@ sum-less f g (suc n) i h l q = go (λ z. sum-less f g n i (λ j r. h j (omega ar
     go : (i < n → sum f n < sum g n) → Dec (i ≡ n) → sum f n + f n < sum g n + g n
     go ih (yes y) = let r : f n < g n = subst (λ (j : ℕ). f j < g j) y q in omega (arith, sum-le f g n (λ j r. h j (omega arith)))
     go ih (no z) = omega (arith, ih (omega arith), h n (omega arith))
+
+-- where the first end is x, the set has to have the second, whatever that is
+pub leads-first : {f : Bool} (x m a b : ℕ) → f ≡ true → a ≡ x → has m b ≡ leadsBy f x m a b
+unfolding leadsBy
+leads-first x m a b free e = rw (free, eq-eqb a x e) (go (eqb b x) refl)
+  where
+    go : (t : Bool) → eqb b x ≡ t → has m b ≡ (has m b || (t && has m a))
+    go true f = ap (λ (i : ℕ). has m i) (eqb-true b x f ∙ sym e) ∙ twice (has m a) ∙ ap (λ (i : ℕ). has m i || has m a) (e ∙ sym (eqb-true b x f))
+      where
+        twice : (q : Bool) → q ≡ (q || q)
+        twice true = refl
+        twice false = refl
+    go false f = sym (or-none (has m b))
 
 module _ (net : Network) (free : ℕ → Bool) where
   widen-kept : (old n q : ℕ) → bit old q ≡ 1 → bit (widen net free old n) q ≡ 1
@@ -182,8 +170,9 @@ module _ (net : Network) (free : ℕ → Bool) where
         go : Next (near net free y n) (net .count) x → (stepOf n x < net .count) × (bit (near net free y n) (far net free x (stepOf n x)) ≡ 1)
         go (inl g) = absurd (false≢true (sym e ∙ has-true (near net free y n) x g))
         go (inr w) =
-            let p = passed (leads net free x (near net free y n)) (net .count) (w .0) (w .1) (w .2) in
-            (p .0, leads-far x (near net free y n) (stepOf n x) (p .1))
+            let t = leads net free x (near net free y n) in
+            let l : stepOf n x < net .count = omega (arith, lowest-le t (net .count) (w .0) (w .2), w .1) in
+            (l, leads-far x (near net free y n) (stepOf n x) (lowest-passes t (net .count) l))
 
     -- a way of n rounds and one round more
     pub way-stay : (n x : ℕ) → has (near net free y n) x ≡ true → way net free y (suc n) x ≡ way net free y n x
@@ -220,193 +209,127 @@ module _ (net : Network) (free : ℕ → Bool) where
         go ih (no z) = f n (ih (omega arith))
 
     -- round d met x: with more rounds it is met too, and the way is the same
-    met : (d x : ℕ) → bit (near net free y d) x ≡ 1 → (n : ℕ) → d ≤ n → (bit (near net free y n) x ≡ 1) × (way net free y n x ≡ way net free y d x)
+    pub met : (d x : ℕ) → bit (near net free y d) x ≡ 1 → (n : ℕ) → d ≤ n → (bit (near net free y n) x ≡ 1) × (way net free y n x ≡ way net free y d x)
     met d x h = later (λ n. (bit (near net free y n) x ≡ 1) × (way net free y n x ≡ way net free y d x)) d (h, refl)
         (λ n r. (near-kept n x (r .0), way-stay n x (has-true (near net free y n) x (r .0)) ∙ r .1))
 
     -- the round after d added nothing: nor does a later one
-    ended : (d : ℕ) → widen net free (near net free y d) (net .count) ≡ near net free y d → (n : ℕ) → d ≤ n → near net free y n ≡ near net free y d
+    pub ended : (d : ℕ) → widen net free (near net free y d) (net .count) ≡ near net free y d → (n : ℕ) → d ≤ n → near net free y n ≡ near net free y d
     unfolding near
     ended d e = later (λ n. near net free y n ≡ near net free y d) d refl (λ n r. ap (λ (o : ℕ). widen net free o (net .count)) r ∙ e)
 
-    -- the rounds so far
-    pub record Rounding (x : ℕ) (sets : List ℕ) (last side : ℕ) : Type 0 where
-      pub long : length sets ≡ 65
-      pub few : last ≤ 64
-      pub each : (j : ℕ) → j ≤ last → getD sets j 0 ≡ near net free y j
-      pub is : side ≡ near net free y last
+bit-and : (a b i : ℕ) → bit (bitAnd a b) i ≡ min (bit a i) (bit b i)
+unfolding bit
+bit-and a b i = rw (and-shr, and-step) (digits-mod _ (omega arith))
 
-    module _ (x : ℕ) where
-      pub rounding-start : (sets : List ℕ) {side : ℕ} → length sets ≡ 65 → side ≡ put 0 y → Rounding x (set sets 0 side) 0 side
-      unfolding near
-      rounding-start sets {side} long e =
-          let z : side ≡ 2 ^ y = e ∙ put-zero y in
-          record {
-            long = length-set sets 0 side ∙ long;
-            few = omega arith;
-            each = λ j l. let j0 : j ≡ 0 = omega arith in rw j0 (getD-set-same sets 0 side 0 (omega (arith, long)) ∙ z);
-            is = z;
-          }
+-- `once` has what was counted at least once, and `twice` what was counted at least twice
+pub record Seen (c : ℕ → ℕ) (s : Carried) : Type 0 where
+  pub once-is : (x : ℕ) → bit (s .once) x ≡ min 1 (c x)
+  pub twice-is : (x : ℕ) → bit (s .twice) x ≡ min 1 (c x - 1)
 
-      module _ {sets : List ℕ} {last side : ℕ} (now : Rounding x sets last side) where
-        pub rounding-next : last < 64 → {next : ℕ} → next ≡ widen net free side (net .count) → Rounding x (set sets (last + 1) next) (last + 1) next
-        unfolding near
-        rounding-next l {next} e =
-            let z : next ≡ near net free y (last + 1) = e ∙ ap (λ (o : ℕ). widen net free o (net .count)) (now .is) ∙ sym (ap (near net free y) (add-one last)) in
-            record {
-              long = length-set sets (last + 1) next ∙ now .long;
-              few = omega arith;
-              each = λ j q. go z j q (ℕ-discrete j (last + 1));
-              is = z;
-            }
-          where
-            go : next ≡ near net free y (last + 1) → (j : ℕ) → j ≤ last + 1 → Dec (j ≡ last + 1) → getD (set sets (last + 1) next) j 0 ≡ near net free y j
-            go z j q (yes e) = rw e (getD-set-same sets (last + 1) next 0 (omega (arith, now .long)) ∙ z)
-            go z j q (no n) = getD-set-other sets (last + 1) j next 0 n ∙ now .each j (omega arith)
+one-min : (c : ℕ) → min (min 1 (suc c)) 1 ≡ 1
+one-min c = omega arith
 
-        told : has (near net free y 64) x ≡ has (near net free y last) x → RoundsTo net free y x (record { sets = sets; last = last })
-        told m = record {
-          long = now .long;
-          few = now .few;
-          each = now .each;
-          met = m;
-          same = λ h. met last x (true-has _ x h) 64 (now .few) .1;
-        }
+one-max : (c : ℕ) → max (min 1 c) 1 ≡ 1
+one-max c = omega arith
 
-        -- the three ends: x is met, a round adds nothing, and all rounds are made
-        pub rounding-met : has side x ≡ true → RoundsTo net free y x (record { sets = sets; last = last })
-        rounding-met h =
-            let z = ap (λ (m : ℕ). has m x) (sym (now .is)) ∙ h in
-            told (has-true _ x (met last x (true-has _ x z) 64 (now .few) .0) ∙ sym z)
+one-sum : (c : ℕ) → 1 ≡ min 1 (1 + suc c - 1)
+one-sum c = omega arith
 
-        pub rounding-same : widen net free side (net .count) ≡ side → RoundsTo net free y x (record { sets = sets; last = last })
-        rounding-same h = told (ap (λ (m : ℕ). has m x) (ended last (subst (λ (m : ℕ). widen net free m (net .count) ≡ m) (now .is) h) 64 (now .few)))
+two-step : (s c : ℕ) → s < 2 → max (min 1 (c - 1)) (min (min 1 c) s) ≡ min 1 (s + c - 1)
+two-step zero c l = rw (min-zero (min 1 c), max-zero (min 1 (c - 1))) (omega arith)
+two-step (suc zero) zero l = omega arith
+two-step (suc zero) (suc c) l = ap (max (min 1 (suc c - 1))) (one-min c) ∙ one-max (suc c - 1) ∙ one-sum c
+two-step (suc (suc s)) c l = absurd (omega arith)
 
-        pub rounding-all : 64 ≤ last → RoundsTo net free y x (record { sets = sets; last = last })
-        rounding-all l = let z : 64 ≡ last = omega (arith, now .few) in told (ap (λ (n : ℕ). has (near net free y n) x) z)
+pub seen-more : (c : ℕ → ℕ) (s : Carried) (w : ℕ) → Seen c s → Seen (λ x. bit w x + c x) (seenBy s w)
+seen-more c s w h = record {
+  once-is = λ x. omega (arith, bit-or (s .once) w x, h .once-is x, bit-lt w x);
+  twice-is = λ x. rw (bit-or (s .twice) (bitAnd (s .once) w) x, bit-and (s .once) w x, h .once-is x, h .twice-is x) (two-step (bit w x) (c x) (bit-lt w x));
+}
 
--- whether the last round met x
-pub last-met : {net : Network} {free : ℕ → Bool} {y x : ℕ} {r : Rounds} → RoundsTo net free y x r → {t : Bool} → t ≡ has (getD (r .sets) (r .last) 0) x
-    → has (near net free y (r .last)) x ≡ t
-last-met {x = x} {r = r} told e = ap (λ (m : ℕ). has m x) (sym (told .each (r .last) (le-refl _))) ∙ sym e
+pub lost-bit : (S : ℕ → ℕ) (x k : ℕ) (ks : List ℕ) → lost (λ j. has (S j) x) (k ∷ ks) ≡ bit (S k) x + lost (λ j. has (S j) x) ks
+unfolding lost
+lost-bit S x k ks = go (has (S k) x) refl
+  where
+    go : (b : Bool) → has (S k) x ≡ b → cond b (suc (lost (λ j. has (S j) x) ks)) (lost (λ j. has (S j) x) ks) ≡ bit (S k) x + lost (λ j. has (S j) x) ks
+    go true e = omega (arith, true-has (S k) x e)
+    go false e = elim (ℕ-discrete (bit (S k) x) 1) [ yes y ↦ absurd (false≢true (sym e ∙ has-true (S k) x y)) | no z ↦ omega (arith, bit-lt (S k) x) ]
 
-module _ (net : Network) (low high : List ℕ) (k : ℕ) where
-  -- the way is on: it has come to a piece of round `left`, and what is left of it gathers the rest of the ring
-  pub record Trailing (last left : ℕ) (t : Trail) : Type 0 where
-    pub few : left ≤ last
-    pub at-low : t .at < 64
-    pub met : bit (near net (but k) (net .to k) left) (t .at) ≡ 1
-    pub rest : gathered net low high (way net (but k) (net .to k) left (t .at)) t ≡ trailOf net low high k
+pub seen-none : Seen (λ x. 0) (record { once = 0; twice = 0 })
+seen-none = record { once-is = λ x. bit-of-zero x; twice-is = λ x. bit-of-zero x }
 
-  pub trailing-start : {r : Rounds} {t : Trail} → RoundsTo net (but k) (net .to k) (net .from k) r → (net .from k ≡ net .to k → ⊥) → net .from k < 64
-      → has (near net (but k) (net .to k) (r .last)) (net .from k) ≡ true → t ≡ withPath net low high (emptyTrail net low high (net .to k)) k → Trailing (r .last) (r .last) t
-  unfolding trailOf gathered
-  trailing-start {r} {t} told ne l h e =
-      let z : t .at ≡ net .from k = ap (λ (u : Trail). u .at) e ∙ ap (λ (b : Bool). cond b (net .to k) (net .from k)) (ne-eqb (net .from k) (net .to k) ne) in
-      record {
-        few = le-refl _;
-        at-low = omega arith;
-        met = rw z (true-has _ _ h);
-        rest =
-          ap (λ (x : ℕ). gathered net low high (way net (but k) (net .to k) (r .last) x) t) z
-          ∙ ap (λ (ks : List ℕ). gathered net low high ks t) (sym (told .same h))
-          ∙ ap (gathered net low high (way net (but k) (net .to k) 64 (net .from k))) e;
-      }
+-- every number below n passes exactly if each does
+pub every-true : (t : ℕ → Bool) (n : ℕ) → ((x : ℕ) → x < n → t x ≡ true) → every t n ≡ true
+unfolding every
+every-true t zero h = refl
+every-true t (suc n) h = and-both (h n (omega arith)) (every-true t n (λ x l. h x (omega arith)))
 
-  -- where the lightpath comes from that `nearer` looks for
-  pub trailing-leads : {last left : ℕ} {t : Trail} → Trailing last left t → 0 < left → has (near net (but k) (net .to k) (left - 1)) (t .at) ≡ false
-      → stepOf net (but k) (net .to k) (left - 1) (t .at) < net .count
-  trailing-leads {last} {left} {t} now l e =
-      let z : left ≡ suc (left - 1) = omega arith in
-      step-is net (but k) (net .to k) (left - 1) (t .at) e (subst (λ (n : ℕ). bit (near net (but k) (net .to k) n) (t .at) ≡ 1) z (now .met)) .0
+pub every-at : (t : ℕ → Bool) (n : ℕ) → every t n ≡ true → (i : ℕ) → i < n → t i ≡ true
+unfolding every
+every-at t zero e i l = absurd (omega arith)
+every-at t (suc n) e i l = let b = and-inv {a = t n} e in go (b .0) (λ q. every-at t n (b .1) i q) (ℕ-discrete i n)
+  where
+    go : t n ≡ true → (i < n → t i ≡ true) → Dec (i ≡ n) → t i ≡ true
+    go a ih (yes y) = ap t y ∙ a
+    go a ih (no z) = ih (omega arith)
 
-  trailing-suc : {last n : ℕ} {t : Trail} → ((j : ℕ) → (net .from j < 64) × (net .to j < 64)) → Trailing last (suc n) t
-      → (b : Bool) → has (near net (but k) (net .to k) n) (t .at) ≡ b → Trailing last n (cond b t (withPath net low high t (stepOf net (but k) (net .to k) n (t .at))))
-  unfolding gathered far
-  trailing-suc {last} {n} {t} ends now true e = record {
-    few = omega (arith, now .few);
-    at-low = now .at-low;
-    met = true-has _ _ e;
-    rest = ap (λ (ks : List ℕ). gathered net low high ks t) (sym (way-stay net (but k) (net .to k) n (t .at) e)) ∙ now .rest;
-  }
-  trailing-suc {last} {n} {t} ends now false e =
-      let s = step-is net (but k) (net .to k) n (t .at) e (now .met) in
-      record {
-        few = omega (arith, now .few);
-        at-low = low-end (eqb (net .from (stepOf net (but k) (net .to k) n (t .at))) (t .at)) (ends (stepOf net (but k) (net .to k) n (t .at)));
-        met = s .1;
-        rest = ap (λ (ks : List ℕ). gathered net low high ks t) (sym (way-step net (but k) (net .to k) n (t .at) e)) ∙ now .rest;
-      }
+-- lightpaths that are out alike; none that is out
+pub lost-alike : (out out′ : ℕ → Bool) (n : ℕ) {ks : List ℕ} → Under n ks → ((k : ℕ) → k < n → out k ≡ out′ k) → lost out ks ≡ lost out′ ks
+unfolding lost
+lost-alike out out′ n nothing h = refl
+lost-alike out out′ n (one-more {k} {ks} l u) h = rw (h k l, lost-alike out out′ n u h)
+
+pub lost-none : (out : ℕ → Bool) (n : ℕ) {ks : List ℕ} → Under n ks → ((k : ℕ) → k < n → out k ≡ false) → lost out ks ≡ 0
+unfolding lost
+lost-none out n nothing h = refl
+lost-none out n (one-more {k} {ks} l u) h = rw (h k l) (lost-none out n u h)
+
+-- a ring that is merged
+module _ (m : RouteBook) (fits : wellFormed m ≡ true) (piece : ℕ → ℕ) (k : ℕ) (l : k < length (m .lightpaths)) (ring : merges m piece k ≡ true) where
+  abbrev net : Network
+  net = over (network m) piece
+
+  pub parted : (piece (network m .from k) ≡ piece (network m .to k) → ⊥) × (round m piece k ≡ true)
+  unfolding merges
+  parted =
+      let a = and-inv {a = not (eqb (piece (network m .from k)) (piece (network m .to k)))} ring in
+      ((λ e. false≢true (sym (ap not (eq-eqb _ _ e)) ∙ a .0)), and-inv {a = round m piece k} (a .1) .0)
+
+  pub under : Under (length (m .lightpaths)) (ringOf m piece k)
+  under = one-more l (way-under net (but k) (net .to k) 64 (net .from k) (true-has _ _ (parted .1)))
+
+  touch-from : touches net (ringOf m piece k) (net .from k) ≡ true
+  unfolding touches
+  touch-from = or-l _ (or-l (eqb (net .to k) (net .from k)) (eq-eqb (net .from k) (net .from k) refl))
+
+  touch-to : touches net (ringOf m piece k) (net .to k) ≡ true
+  unfolding touches
+  touch-to = or-l _ (or-r (eqb (net .from k) (net .to k)) (eq-eqb (net .to k) (net .to k) refl))
+
+  -- no label rises
+  pub ring-le : (i : ℕ) → merged m piece (ringOf m piece k) i ≤ piece i
+  unfolding merged lowestLabel
+  ring-le i = go (touches net (ringOf m piece k) (piece i)) refl
     where
-      low-end : (b : Bool) {x y : ℕ} → (x < 64) × (y < 64) → cond b y x < 64
-      low-end true h = h .1
-      low-end false h = h .0
+      go : (b : Bool) → touches net (ringOf m piece k) (piece i) ≡ b → cond b (lowestOf (touches net (ringOf m piece k)) 64) (piece i) ≤ piece i
+      go true e = lowest-le (touches net (ringOf m piece k)) 64 (piece i) e
+      go false e = le-refl _
 
-  pub trailing-next : {last left : ℕ} {t t′ : Trail} → ((j : ℕ) → (net .from j < 64) × (net .to j < 64)) → Trailing last left t → 0 < left
-      → t′ ≡ nearerBy net (but k) low high (near net (but k) (net .to k) (left - 1)) t → Trailing last (left - 1) t′
-  unfolding nearerBy
-  trailing-next {last} {left} {t} ends now l e =
-      let z : left ≡ suc (left - 1) = omega arith in
-      subst (Trailing last (left - 1)) (sym e) (trailing-suc ends (subst (λ (n : ℕ). Trailing last n t) z now) (has (near net (but k) (net .to k) (left - 1)) (t .at)) refl)
+  ring-at : (i : ℕ) → touches net (ringOf m piece k) (piece i) ≡ true → merged m piece (ringOf m piece k) i ≡ lowestLabel m piece (ringOf m piece k)
+  unfolding merged
+  ring-at i e = rw e
 
-  pub trailing-done : {last left : ℕ} {t : Trail} → Trailing last left t → left ≤ 0 → t ≡ trailOf net low high k
-  unfolding gathered way
-  trailing-done {last} {left} {t} now l =
-      let z : left ≡ 0 = omega arith in
-      ap (λ (n : ℕ). gathered net low high (way net (but k) (net .to k) n (t .at)) t) (sym z) ∙ now .rest
-
-  -- the answer on lightpath k, test by test
-  abbrev Answer : Ring → Type 0
-  Answer r = r ≡ cond (mergesBy net low high k) (ringAt net low high k) Nothing
-
-  pub same-piece : net .from k ≡ net .to k → Answer Nothing
-  unfolding mergesBy
-  same-piece e = rw (eq-eqb (net .from k) (net .to k) e)
-
-  module _ (ne : net .from k ≡ net .to k → ⊥) where
-    pub no-way : has (near net (but k) (net .to k) 64) (net .from k) ≡ false → Answer Nothing
-    unfolding mergesBy
-    no-way h = rw (ne-eqb (net .from k) (net .to k) ne, h)
-
-    module _ (h : has (near net (but k) (net .to k) 64) (net .from k) ≡ true) {t : Trail} (e : t ≡ trailOf net low high k) where
-      pub low-twice : (t .low .twice ≡ 0 → ⊥) → Answer Nothing
-      unfolding mergesBy
-      low-twice n = rw (ne-eqb (net .from k) (net .to k) ne, h, ne-eqb (trailOf net low high k .low .twice) 0 (λ z. n (ap (λ (u : Trail). u .low .twice) e ∙ z)))
-
-      pub high-twice : t .low .twice ≡ 0 → (t .high .twice ≡ 0 → ⊥) → Answer Nothing
-      unfolding mergesBy
-      high-twice l n =
-          rw (
-            ne-eqb (net .from k) (net .to k) ne,
-            h,
-            eq-eqb (trailOf net low high k .low .twice) 0 (ap (λ (u : Trail). u .low .twice) (sym e) ∙ l),
-            ne-eqb (trailOf net low high k .high .twice) 0 (λ z. n (ap (λ (u : Trail). u .high .twice) e ∙ z)),
-          )
-
-      pub is-sparing : t .low .twice ≡ 0 → t .high .twice ≡ 0 → Answer (Sparing (t .touched))
-      unfolding mergesBy
-      is-sparing l g =
-          rw (
-            ne-eqb (net .from k) (net .to k) ne,
-            h,
-            eq-eqb (trailOf net low high k .low .twice) 0 (ap (λ (u : Trail). u .low .twice) (sym e) ∙ l),
-            eq-eqb (trailOf net low high k .high .twice) 0 (ap (λ (u : Trail). u .high .twice) (sym e) ∙ g),
-          ) (ap (λ (u : Trail). Sparing (u .touched)) e)
-
--- what an answer on one lightpath says of the test
-isRing : Ring → Bool
-isRing (Sparing s) = true
-isRing Nothing = false
-
-pub ring-hit : (b : Bool) (u : ℕ) {s : ℕ} → Sparing s ≡ cond b (Sparing u) Nothing → (b ≡ true) × (Sparing s ≡ Sparing u)
-unfolding isRing
-ring-hit true u e = (refl, e)
-ring-hit false u e = absurd (false≢true (ap isRing (sym e)))
-
-pub ring-miss : (b : Bool) (u : ℕ) → Nothing ≡ cond b (Sparing u) Nothing → b ≡ false
-unfolding isRing
-ring-miss true u e = absurd (false≢true (ap isRing e))
-ring-miss false u e = refl
-
-pub ring-same : {s u : ℕ} → Sparing s ≡ Sparing u → s ≡ u
-ring-same e = cc
+  -- and one of the two labels of k falls
+  pub ring-less : sum (merged m piece (ringOf m piece k)) 64 < sum piece 64
+  ring-less = go (decLt (merged m piece (ringOf m piece k) (network m .from k)) (piece (network m .from k)))
+    where
+      go : Dec (merged m piece (ringOf m piece k) (network m .from k) < piece (network m .from k)) → sum (merged m piece (ringOf m piece k)) 64 < sum piece 64
+      go (yes q) = sum-less (merged m piece (ringOf m piece k)) piece 64 (network m .from k) (λ j z. ring-le j) (ends-lt m fits k l .0) q
+      go (no q) =
+          let a = ring-at (network m .from k) touch-from in
+          let b = ring-at (network m .to k) touch-to in
+          let c = ring-le (network m .from k) in
+          let d = ring-le (network m .to k) in
+          let e = parted .0 in
+          sum-less (merged m piece (ringOf m piece k)) piece 64 (network m .to k) (λ j z. ring-le j) (ends-lt m fits k l .1) (omega arith)

@@ -1,9 +1,9 @@
 -- THE JUDGEMENT OVER PIECES, of the arrays: with the labels in place of the ends and of the stations, the struct's own judgement is that over the pieces,
 -- once its sides are given in stations. The lowest of the stations' labels is the label of the lowest station.
-use Prim.Native.Nat.{ℕ, zero, suc, _+_, _-_, _*_, _<_, _≤_, zero-le}
+use Prim.Native.Nat.{ℕ, zero, suc, _+_, _-_, _<_}
 use mathlib.Core.Path.{_≡_, refl, sym, ap, ap₂, _∙_, subst}
 use mathlib.Core.List.{List}
-use mathlib.Core.Logic.{_⊎_, inl, inr}
+use mathlib.Core.Logic.{inl, inr}
 use mathlib.Core.Bool.{Bool, true, false, cond, not, _&&_}
 use native.Mathlib.Nat.{le-antisymm}
 use native.Mathlib.Decide.{ℕ-discrete, decLt}
@@ -13,11 +13,11 @@ use lib.Dec.{eqb, ltb}
 use lib.ListN.{length, getD}
 use borrow.Author.Tests.{lt-ltb, le-ltb}
 use Rattle.book.specs.declared.Book.{Book}
-use Rattle.book.specs.Book.{RouteBook, below, wellFormed}
+use Rattle.book.specs.Book.{RouteBook, wellFormed}
 use Rattle.book.specs.Memory.{bookOf}
 use Rattle.book.specs.Format.{good}
 use Rattle.book.specs.Bits.{bit, has, put}
-use Rattle.book.proofs.Bits.{has-true, true-has, bit-of-zero, put-same, put-keeps, put-inv}
+use Rattle.book.proofs.Bits.{bit-of-zero, put-same, put-keeps, put-inv}
 use Rattle.book.proofs.Bounds.{counts}
 use Rattle.book.proofs.Tests.{and-both}
 use Rattle.book.proofs.Walking.{below-all}
@@ -26,7 +26,6 @@ use Rattle.judgement.specs.Judgement.{rides, network, load, limit, witho
 use Rattle.judgement.specs.Pieces.{over, labels, pieceSide, pieceWhole, inStations, cutOver, splitOver}
 use Rattle.judgement.specs.Contraction.{pieces, mergesIn, contractedOf}
 use Rattle.judgement.specs.Arrays.{usable, loadIn, limitIn, upIn, sideBy, cutOrOkayIn, splitOrIn}
-use Rattle.judgement.specs.Inside.{netOf}
 use Rattle.judgement.specs.Holding.{Usable}
 use Rattle.judgement.specs.Merge.{Table, Labelled, OverPieces, withEnds, inStationsBy, givenIn}
 use Rattle.judgement.specs.declared.Verdict.{Verdict}

@@ -1,6 +1,6 @@
 -- A span over its limit is the answer, with no merge; else the pieces are made and what is left is judged. Both are one search, whose last answer is that.
 use borrow.Author.Needs.{needs}
-use mathlib.Core.Path.{_≡_, sym, ap, ap₂, _∙_}
+use mathlib.Core.Path.{sym, ap, ap₂, _∙_}
 use Rattle.judgement.specs.Pieces.{splitOver}
 use Rattle.judgement.specs.Contraction.{pieces, mergesIn}
 use Rattle.judgement.specs.declared.Contracted.the-variants.{Told}

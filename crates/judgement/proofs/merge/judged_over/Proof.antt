@@ -1,5 +1,5 @@
 -- The struct over the pieces is usable, and its own verdict, with its side given in stations, is the verdict over the pieces: `over-given`.
-use mathlib.Core.Path.{_≡_, ap, _∙_}
+use mathlib.Core.Path.{ap, _∙_}
 use Prim.Native.Nat.{ℕ, _<_}
 use lib.ListN.{getD}
 use borrow.Author.Needs.{needs}

@@ -6,7 +6,7 @@ use Rattle.judgement.specs.Inside.{netOf}
 use Rattle.judgement.specs.Merge.{mergesBy, ringAt}
 use Rattle.judgement.specs.declared.ways.Ring.the-variants.{Nothing}
 use Rattle.judgement.proofs.First.{Looking, looking-start, looking-next, looking-hit, looking-end}
-use Rattle.judgement.proofs.Merging.{ring-hit, ring-miss}
+use Rattle.judgement.proofs.Trails.{ring-hit, ring-miss}
 use Rattle.judgement.proofs.ways.first_ring.Statement.{statement}
 use Rattle.judgement.proofs.ways.first_ring.Tie as tie
 

@@ -1,7 +1,6 @@
 -- Where the way is in the set it stays; else the lightpath that is found is one of the n, and is put to the trail.
 use borrow.Author.Needs.{needs}
-use mathlib.Core.Path.{_≡_, sym, ap, _∙_}
-use mathlib.Core.Bool.{Bool, cond}
+use mathlib.Core.Path.{sym, _∙_}
 use native.Mathlib.Omega.{arith}
 use Prim.Native.Nat.{_<_}
 use Rattle.judgement.specs.Merge.{nearerBy}

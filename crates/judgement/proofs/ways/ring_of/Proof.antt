@@ -10,7 +10,7 @@ use Rattle.book.specs.Bits.{has}
 use Rattle.judgement.specs.Ways.{near}
 use Rattle.judgement.specs.Inside.{netOf}
 use Rattle.judgement.specs.Merge.{but}
-use Rattle.judgement.proofs.Merging.{last-met, same-piece, no-way, low-twice, high-twice, is-sparing}
+use Rattle.judgement.proofs.Trails.{last-met, same-piece, no-way, low-twice, high-twice, is-sparing}
 use Rattle.judgement.proofs.ways.ring_of.Statement.{statement}
 use Rattle.judgement.proofs.ways.ring_of.Tie as tie
 

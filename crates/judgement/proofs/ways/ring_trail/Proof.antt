@@ -1,19 +1,15 @@
 -- The trail starts with lightpath k, which leads from its "to" to its "from". At each turn the way comes one round nearer.
 -- What is left of it gathers the rest of the ring: nothing at the end.
 use borrow.Author.Needs.{needs}
-use mathlib.Core.Path.{_≡_, sym, ap, _∙_, subst}
+use mathlib.Core.Path.{_≡_}
 use native.Mathlib.Omega.{arith}
-use Prim.Native.Nat.{ℕ, _-_, _≤_, _<_}
-use mathlib.Core.Bool.{Bool, false}
+use Prim.Native.Nat.{_-_, _≤_, _<_}
 use lib.ListN.{getD}
 use denote.Ref.{now}
-use Rattle.book.specs.Bits.{has}
-use Rattle.judgement.specs.Network.{Network}
-use Rattle.judgement.specs.Ways.{near, leads, lowestOf}
-use Rattle.judgement.specs.Inside.{netOf, Fits}
-use Rattle.judgement.specs.Merge.{but, nearerBy}
-use Rattle.judgement.specs.declared.ways.Trail.{Trail}
-use Rattle.judgement.proofs.Merging.{Trailing, trailing-start, trailing-leads, trailing-next, trailing-done}
+use Rattle.judgement.specs.Ways.{near}
+use Rattle.judgement.specs.Inside.{netOf}
+use Rattle.judgement.specs.Merge.{but}
+use Rattle.judgement.proofs.Trails.{Trailing, trailing-start, trailing-leads, trailing-next, trailing-done}
 use Rattle.judgement.proofs.ways.ring_trail.Statement.{statement}
 use Rattle.judgement.proofs.ways.ring_trail.Tie as tie
 

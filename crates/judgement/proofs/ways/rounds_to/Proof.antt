@@ -1,11 +1,11 @@
 -- The array holds the rounds up to the last, and the set is the last one. No later round tells more of x once one meets it or adds nothing.
 use borrow.Author.Needs.{needs}
-use mathlib.Core.Path.{_≡_, sym, _∙_}
+use mathlib.Core.Path.{sym, _∙_}
 use Prim.Native.Nat.{ℕ, _-_}
 use lib.ListN.{replicate, length-replicate}
 use Rattle.judgement.specs.Inside.{netOf}
 use Rattle.judgement.specs.Merge.{but}
-use Rattle.judgement.proofs.Merging.{Rounding, rounding-start, rounding-next, rounding-met, rounding-same, rounding-all}
+use Rattle.judgement.proofs.Trails.{Rounding, rounding-start, rounding-next, rounding-met, rounding-same, rounding-all}
 use Rattle.judgement.proofs.ways.rounds_to.Statement.{statement}
 use Rattle.judgement.proofs.ways.rounds_to.Tie as tie
 

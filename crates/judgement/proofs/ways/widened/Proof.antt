@@ -6,7 +6,7 @@ use native.Mathlib.Nat.{le-antisymm}
 use Rattle.judgement.specs.Ways.{widen}
 use Rattle.judgement.specs.Inside.{netOf}
 use Rattle.judgement.specs.Merge.{but, spreadBy}
-use Rattle.judgement.proofs.Merging.{widen-step}
+use Rattle.judgement.proofs.Trails.{widen-step}
 use Rattle.judgement.proofs.ways.widened.Statement.{statement}
 use Rattle.judgement.proofs.ways.widened.Tie as tie
 
