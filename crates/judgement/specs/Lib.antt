@@ -1,6 +1,6 @@
 -- What a reader must believe of crate judgement: who is joined (Network), loads, sides, verdict and score (Judgement), both forms of survivability
 -- (Cuts), when each verdict is given (Meaning), and what the operations answer (Answers). Arrays has what is answered of any struct, which the law
--- `verdict-in` ties to the verdict. Inside and Holding have what the private functions tell each other: nothing to believe.
+-- `verdict-in` ties to the verdict. Inside, Holding and Merge have what the private functions tell each other: nothing to believe.
 pub mod Network
 pub mod Judgement
 pub mod Cuts
@@ -12,3 +12,4 @@ pub mod Contraction
 pub mod Arrays
 pub mod Inside
 pub mod Holding
+pub mod Merge

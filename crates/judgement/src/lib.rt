@@ -1,9 +1,11 @@
 // The judgement of a choice of routes: loads, sides, the verdict, the question about a span, and the score. docs/JUDGEMENT.md says what each is.
 pub mod kind;
 mod load;
+mod merge;
 mod pairs;
 mod question;
 mod side;
+mod ways;
 
 use book::Answer;
 use book::choice;
@@ -11,6 +13,7 @@ ghost use mathlib.Core.Path.{_≡_};
 ghost use Rattle.book.specs.Format.{reading};
 ghost use Rattle.book.specs.Writing.{chosenOf};
 ghost use Rattle.judgement.specs.Answers.{judgedOf, scoredOf, askedOf};
+ghost use Rattle.judgement.specs.Contraction.{contractedOf};
 
 // The first that holds: a span over its limit, with its load and limit; a network that is split, with the side; a span whose loss parts the stations, with
 // the side then; or none of these.
@@ -84,5 +87,18 @@ pub fn ask(s: &[u8], n: u32, x: u32) -> Asked
     match answer {
         Answer::Good => question::asked_of(b, x),
         Answer::Refused(no, place) => Asked::Refused(no, place),
+    }
+}
+
+// Judges choice n of a book by contraction, the second engine: the verdict is that of `judge`, and the number of merges comes with it.
+pub fn contract(s: &[u8], n: u32) -> Contracted
+    ensures { λ r. ⌜ r ≡ contractedOf (chosenOf (reading (now (s .entry))) n) ⌝ }
+{
+    let reply = choice::choose(s, n);
+    let answer = reply.answer;
+    let b = reply.book;
+    match answer {
+        Answer::Good => merge::contracted_of(b),
+        Answer::Refused(no, place) => Contracted::Refused(no, place),
     }
 }
