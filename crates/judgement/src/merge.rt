@@ -103,7 +103,10 @@ fn pieces_of(b: Book) -> Pieces
                 merges += 1;
             }
             Ring::Nothing => {
-                return Pieces { label: label, merges: merges };
+                return Pieces {
+                    label: label,
+                    merges: merges,
+                };
             }
         }
     }

@@ -67,17 +67,26 @@ fn rounds_to<'a>(
     let mut last = 0;
     while last < 64 {
         if side.has(x) {
-            return Rounds { sets: sets, last: last };
+            return Rounds {
+                sets: sets,
+                last: last,
+            };
         }
         let next = widened(side, from, to, skip, n);
         if next.mask == side.mask {
-            return Rounds { sets: sets, last: last };
+            return Rounds {
+                sets: sets,
+                last: last,
+            };
         }
         last += 1;
         sets[last] = next.mask;
         side = next;
     }
-    Rounds { sets: sets, last: last }
+    Rounds {
+        sets: sets,
+        last: last,
+    }
 }
 
 // Whether a lightpath leads from x into a set: x is one of its ends, and the set has the other.
