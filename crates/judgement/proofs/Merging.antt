@@ -14,7 +14,7 @@ use lib.Arith.{digits-mod}
 use lib.Bits.{bitAnd, and-shr, and-step}
 use borrow.Author.Tests.{eqb-true, eq-eqb, lt-ltb, le-ltb}
 use Rattle.book.specs.Bits.{bit, has, put}
-use Rattle.book.specs.Book.{RouteBook, below, wellFormed}
+use Rattle.book.specs.Book.{RouteBook, wellFormed}
 use Rattle.book.proofs.Bits.{has-true, true-has, put-keeps, put-inv, bit-lt, bit-of-zero, bit-or}
 use Rattle.book.proofs.Tests.{and-inv, and-both}
 use Rattle.book.proofs.Bounds.{ends-lt}
@@ -293,7 +293,7 @@ module _ (m : RouteBook) (fits : wellFormed m ≡ true) (piece : ℕ → ℕ) (k
   abbrev net : Network
   net = over (network m) piece
 
-  pub parted : (piece (network m .from k) ≡ piece (network m .to k) → ⊥) × (round m piece k ≡ true)
+  parted : (piece (network m .from k) ≡ piece (network m .to k) → ⊥) × (round m piece k ≡ true)
   unfolding merges
   parted =
       let a = and-inv {a = not (eqb (piece (network m .from k)) (piece (network m .to k)))} ring in
