@@ -25,8 +25,8 @@ use Rattle.judgement.specs.Judgement.{rides, network}
 use Rattle.judgement.specs.Pieces.{over}
 use Rattle.judgement.specs.Contraction.{lost, touches, every, round, ringOf, sparing, merges}
 use Rattle.judgement.specs.Merge.{but, seenBy, withPath, gathered, emptyTrail, ringBy, trailOf, mergesBy}
-use Rattle.judgement.specs.declared.ways.Carried.{Carried}
-use Rattle.judgement.specs.declared.ways.Trail.{Trail}
+use Rattle.judgement.specs.declared.ring.Carried.{Carried}
+use Rattle.judgement.specs.declared.ring.Trail.{Trail}
 use Rattle.judgement.proofs.Held.{route-rides}
 use Rattle.judgement.proofs.Merging.{or-none, one-more, way-under, Seen, seen-none, seen-more, lost-bit, lost-alike, lost-none, every-true, every-at}
 

@@ -20,8 +20,8 @@ use Rattle.judgement.specs.Pieces.{over}
 use Rattle.judgement.specs.Contraction.{ringOf, merges, taken, merged, contract, mergesIn}
 use Rattle.judgement.specs.Inside.{netOf, Fits}
 use Rattle.judgement.specs.Merge.{Table, relabelled, Labelled, PiecesOf, trailOf, mergesBy, ringAt}
-use Rattle.judgement.specs.declared.ways.Ring.{Ring}
-use Rattle.judgement.specs.declared.ways.Ring.the-variants.{Sparing, Nothing}
+use Rattle.judgement.specs.declared.ring.Ring.{Ring}
+use Rattle.judgement.specs.declared.ring.Ring.the-variants.{Sparing, Nothing}
 use Rattle.judgement.proofs.First.{first-alike}
 use Rattle.judgement.proofs.Sums.{sum-most}
 use Rattle.judgement.proofs.Stations.{lowest-least}
@@ -101,7 +101,9 @@ module _ (m : RouteBook) (fits : wellFormed m ≡ true) where
 
     -- the ring that is found in such a struct
     abbrev found : Book → Ring
-    found x = firstOf (mergesBy (netOf (x .lightpaths) from to) (x .low) (x .high)) (ringAt (netOf (x .lightpaths) from to) (x .low) (x .high)) Nothing (x .lightpaths) 0
+    found x =
+        let held = netOf (x .lightpaths) from to in
+        firstOf (mergesBy held (x .low) (x .high)) (ringAt held (x .low) (x .high)) Nothing (x .lightpaths) 0
 
     module _ {r : Ring} (h : r ≡ found b) where
       ring-is : r ≡ cond (ltb next (length (m .lightpaths))) (ringAt net (bookOf m .low) (bookOf m .high) next) Nothing

@@ -24,7 +24,7 @@ use Rattle.judgement.specs.Pieces.{over}
 use Rattle.judgement.specs.Ways.{lowestOf, widen, near, leads, far, way}
 use Rattle.judgement.specs.Contraction.{lost, touches, every, round, ringOf, merges, lowestLabel, merged}
 use Rattle.judgement.specs.Merge.{but, leadsBy, seenBy}
-use Rattle.judgement.specs.declared.ways.Carried.{Carried}
+use Rattle.judgement.specs.declared.ring.Carried.{Carried}
 use Rattle.judgement.proofs.First.{First, there, nowhere, first, first-only}
 use Rattle.judgement.proofs.Sums.{sum-le}
 

@@ -95,7 +95,10 @@ module _ (m : RouteBook) (fits : wellFormed m ≡ true) (piece : ℕ → ℕ) {l
       let l = low-lt 64 all (piece (lowest m)) (omega (arith, lowest-lt m fits)) here in
       let w = labels-inv (has (stations m)) piece 64 (trailingZeros 64 all) (low-in 64 all l) in
       le-antisymm
-      (elim (decLt (piece (lowest m)) (trailingZeros 64 all)) [ yes q ↦ absurd (omega (arith, here, low-below 64 all (piece (lowest m)) q)) | no q ↦ omega arith ])
+      (elim (decLt (piece (lowest m)) (trailingZeros 64 all)) [
+        | yes q ↦ absurd (omega (arith, here, low-below 64 all (piece (lowest m)) q))
+        | no q ↦ omega arith
+      ])
       (omega (arith, low, w .3, now .above (w .0) (w .2)))
 
   -- a side given in stations

@@ -18,9 +18,9 @@ use Rattle.judgement.specs.Network.{Network}
 use Rattle.judgement.specs.Ways.{widen, near, far, way}
 use Rattle.judgement.specs.Merge.{but, spreadBy, RoundsTo, withPath, gathered, emptyTrail, nearerBy, trailOf, mergesBy, ringAt}
 use Rattle.judgement.specs.declared.ways.Rounds.{Rounds}
-use Rattle.judgement.specs.declared.ways.Trail.{Trail}
-use Rattle.judgement.specs.declared.ways.Ring.{Ring}
-use Rattle.judgement.specs.declared.ways.Ring.the-variants.{Sparing, Nothing}
+use Rattle.judgement.specs.declared.ring.Trail.{Trail}
+use Rattle.judgement.specs.declared.ring.Ring.{Ring}
+use Rattle.judgement.specs.declared.ring.Ring.the-variants.{Sparing, Nothing}
 use Rattle.judgement.proofs.Merging.{stepOf, step-is, way-stay, way-step, met, ended}
 
 -- one lightpath of a round

@@ -5,6 +5,7 @@ mod load;
 mod merge;
 mod pairs;
 mod question;
+mod ring;
 mod side;
 mod ways;
 

@@ -38,7 +38,8 @@ end-labels-requires-2 c κs = usable-fits (held-usable (c .before .before .befor
 now : (l : tie.At-loop Inv-loop μ-loop) → Going (l .before .before .before .before .pre .book) (l .loop .label) (l .loop .merges)
 now l = let h = l .before .before .before .before .pre in l .loop .inv (h .book) (h .is) (h .fits)
 
-labels-fit : (t : tie.After-end-labels2 Inv-loop μ-loop) → Fits (t .before .before .before .before .before .before .args .t1 .lightpaths) (t .before .end-labels .result) (t .end-labels2 .result)
+labels-fit : (t : tie.After-end-labels2 Inv-loop μ-loop)
+    → Fits (t .before .before .before .before .before .before .args .t1 .lightpaths) (t .before .end-labels .result) (t .end-labels2 .result)
 labels-fit t =
     let h = t .before .before .before .before .before .before .pre in
     going-fits (h .book) (h .fits) (h .is) (now (t .before .before)) (t .before .end-labels .ensures) (t .end-labels2 .ensures)

@@ -12,8 +12,8 @@ use Rattle.judgement.specs.Ways.{near}
 use Rattle.judgement.specs.Inside.{netOf}
 use Rattle.judgement.specs.Merge.{but}
 use Rattle.judgement.proofs.Trails.{last-met, same-piece, no-way, low-twice, high-twice, is-sparing}
-use Rattle.judgement.proofs.ways.ring_of.Statement.{statement}
-use Rattle.judgement.proofs.ways.ring_of.Tie as tie
+use Rattle.judgement.proofs.ring.ring_of.Statement.{statement}
+use Rattle.judgement.proofs.ring.ring_of.Tie as tie
 
 element-copy-out-x : tie.Need-element-copy-out-x
 element-copy-out-x c = search needs
@@ -48,7 +48,10 @@ module _ (c : tie.Else2) where
   k = c .before .before .before .before .before .before .before .args .k
 
   abbrev net : Network
-  net = netOf (c .before .before .before .before .before .before .before .args .n) (now (c .before .before .before .before .before .before .before .args .from)) (now (c .before .before .before .before .before .before .before .args .to))
+  net =
+      netOf (c .before .before .before .before .before .before .before .args .n)
+      (now (c .before .before .before .before .before .before .before .args .from))
+      (now (c .before .before .before .before .before .before .before .args .to))
 
   met-last : has (near net (but k) (net .to k) (c .before .before .before .rounds-to .result .last)) (net .from k) ≡ true
   met-last = last-met (c .before .before .before .rounds-to .ensures) (c .before .has .ensures) ∙ not-false _ (c .if2 .left)
@@ -69,12 +72,14 @@ returns-3 c =
 returns-4 : tie.Need-returns-4
 returns-4 c =
     let t = c .before .before .before .before in
-    high-twice _ _ _ _ (t .before .before .before .before .before .if1 .left) (met-all (t .before)) (t .ring-trail .ensures) (c .before .before .if3 .left) (c .if4 .taken)
+    high-twice _ _ _ _ (t .before .before .before .before .before .if1 .left) (met-all (t .before)) (t .ring-trail .ensures)
+    (c .before .before .if3 .left) (c .if4 .taken)
 
 returns-5 : tie.Need-returns-5
 returns-5 c =
     let t = c .before .before .before .before in
-    is-sparing _ _ _ _ (t .before .before .before .before .before .if1 .left) (met-all (t .before)) (t .ring-trail .ensures) (c .before .before .if3 .left) (c .if4 .left)
+    is-sparing _ _ _ _ (t .before .before .before .before .before .if1 .left) (met-all (t .before)) (t .ring-trail .ensures)
+    (c .before .before .if3 .left) (c .if4 .left)
 
 pub ring-of-spec : {M : Type 1} → statement M
 ring-of-spec =

@@ -11,8 +11,8 @@ use Rattle.judgement.specs.Ways.{near}
 use Rattle.judgement.specs.Inside.{netOf}
 use Rattle.judgement.specs.Merge.{but}
 use Rattle.judgement.proofs.Trails.{Trailing, trailing-start, trailing-leads, trailing-next, trailing-done}
-use Rattle.judgement.proofs.ways.ring_trail.Statement.{statement}
-use Rattle.judgement.proofs.ways.ring_trail.Tie as tie
+use Rattle.judgement.proofs.ring.ring_trail.Statement.{statement}
+use Rattle.judgement.proofs.ring.ring_trail.Tie as tie
 
 abbrev Inv-loop : tie.InvT-loop
 Inv-loop from to low high k n sets t₀ left₀ t left = Trailing (netOf n from to) low high k left₀ left t
@@ -58,7 +58,10 @@ module _ (c : tie.In-loop Inv-loop μ-loop) where
   k = c .before .before .before .before .before .before .before .before .before .args .k
 
   abbrev net : Network
-  net = netOf (c .before .before .before .before .before .before .before .before .before .args .n) (now (c .before .before .before .before .before .before .before .before .before .args .from)) (now (c .before .before .before .before .before .before .before .before .before .args .to))
+  net =
+      netOf (c .before .before .before .before .before .before .before .before .before .args .n)
+      (now (c .before .before .before .before .before .before .before .before .before .args .from))
+      (now (c .before .before .before .before .before .before .before .before .before .args .to))
 
   few-left : c .before .loop .left ≤ c .before .before .before .before .before .before .before .before .before .args .r .last
   few-left = c .before .loop .inv .few
@@ -66,7 +69,8 @@ module _ (c : tie.In-loop Inv-loop μ-loop) where
   left-low : c .before .loop .left - 1 < 65
   left-low = omega (arith, c .before .before .before .before .before .before .before .before .before .pre .4 .few, few-left)
 
-  round-is : getD (c .before .before .before .before .before .before .before .before .before .args .r .sets) (c .before .loop .left - 1) 0 ≡ near net (but k) (net .to k) (c .before .loop .left - 1)
+  round-is : getD (c .before .before .before .before .before .before .before .before .before .args .r .sets) (c .before .loop .left - 1) 0
+      ≡ near net (but k) (net .to k) (c .before .loop .left - 1)
   round-is = c .before .before .before .before .before .before .before .before .before .pre .4 .each (c .before .loop .left - 1) (omega (arith, few-left))
 
 sub-left : tie.Need-sub-left Inv-loop μ-loop
