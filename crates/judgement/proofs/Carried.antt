@@ -25,8 +25,8 @@ use Rattle.judgement.specs.Judgement.{rides, network}
 use Rattle.judgement.specs.Pieces.{over}
 use Rattle.judgement.specs.Contraction.{lost, touches, every, round, ringOf, sparing, merges}
 use Rattle.judgement.specs.Merge.{but, seenBy, withPath, gathered, emptyTrail, ringBy, trailOf, mergesBy}
-use Rattle.judgement.specs.declared.ways.Carried.{Carried}
-use Rattle.judgement.specs.declared.ways.Trail.{Trail}
+use Rattle.judgement.specs.declared.ring.Carried.{Carried}
+use Rattle.judgement.specs.declared.ring.Trail.{Trail}
 use Rattle.judgement.proofs.Held.{route-rides}
 use Rattle.judgement.proofs.Merging.{or-none, one-more, way-under, Seen, seen-none, seen-more, lost-bit, lost-alike, lost-none, every-true, every-at}
 
@@ -54,7 +54,8 @@ module _ (net : Network) (low high : List ℕ) where
   touched-more [] t q = refl
   touched-more (k ∷ ks) t q =
       touched-more ks (withPath net low high t k) q
-      ∙ ap (λ (b : Bool). touches net ks q || b) (has-put (put (t .touched) (net .from k)) (net .to k) q ∙ ap (λ (b : Bool). eqb (net .to k) q || b) (has-put (t .touched) (net .from k) q))
+      ∙ ap (λ (b : Bool). touches net ks q || b)
+      (has-put (put (t .touched) (net .from k)) (net .to k) q ∙ ap (λ (b : Bool). eqb (net .to k) q || b) (has-put (t .touched) (net .from k) q))
       ∙ or-turn (touches net ks q) (eqb (net .to k) q) (eqb (net .from k) q) (has (t .touched) q)
 
   -- THE LAW of the pieces that a ring touches
@@ -97,7 +98,7 @@ seen-lt W S h (k ∷ ks) s a b =
 
 -- no count of the first n is above one exactly if no bit of the words is set that has the counts above one, the first for those below 64
 module _ (n : ℕ) (c : ℕ → ℕ) (few : n ≤ 128) (past : (x : ℕ) → n ≤ x → c x ≡ 0) (l h : ℕ) (l-low : l < 2 ^ 64) (h-low : h < 2 ^ 64)
-  (l-is : (x : ℕ) → x < 64 → bit l x ≡ min 1 (c x - 1)) (h-is : (x : ℕ) → x < 64 → bit h x ≡ min 1 (c (64 + x) - 1)) where
+    (l-is : (x : ℕ) → x < 64 → bit l x ≡ min 1 (c x - 1)) (h-is : (x : ℕ) → x < 64 → bit h x ≡ min 1 (c (64 + x) - 1)) where
   most : every (λ x. leb (c x) 1) n ≡ true → (x : ℕ) → c x ≤ 1
   most e x = go (decLt x n)
     where
@@ -116,7 +117,9 @@ module _ (n : ℕ) (c : ℕ → ℕ) (few : n ≤ 128) (past : (x : ℕ) → n �
     where
       go : Dec (x < 64) → c x ≤ 1
       go (yes s) = omega (arith, l-is x s, ap (λ (m : ℕ). bit m x) p, bit-of-zero x)
-      go (no s) = let z : 64 + (x - 64) ≡ x = omega arith in omega (arith, h-is (x - 64) (omega arith), ap (λ (m : ℕ). bit m (x - 64)) q, bit-of-zero (x - 64), ap c z)
+      go (no s) =
+          let z : 64 + (x - 64) ≡ x = omega arith in
+          omega (arith, h-is (x - 64) (omega arith), ap (λ (m : ℕ). bit m (x - 64)) q, bit-of-zero (x - 64), ap c z)
 
   all-once : every (λ x. leb (c x) 1) n ≡ (eqb l 0 && eqb h 0)
   all-once = go (eqb l 0) refl (eqb h 0) refl
@@ -191,12 +194,15 @@ module _ (m : RouteBook) (fits : wellFormed m ≡ true) where
         let a = seen-all (λ j. getD low j 0) ks (λ x. 0) (record { once = 0; twice = 0 }) seen-none in
         let b = seen-all (λ j. getD high j 0) ks (λ x. 0) (record { once = 0; twice = 0 }) seen-none in
         rw (low-seen net low high ks (emptyTrail net low high (net .to k)), high-seen net low high ks (emptyTrail net low high (net .to k)))
-        (all-once (length (m .spans)) (λ x. lost (rides m x) ks) (counts m fits .1) (λ x q. lost-none (rides m x) (length (m .lightpaths)) u (λ j r. rides-past x j q r))
+        (all-once (length (m .spans)) (λ x. lost (rides m x) ks) (counts m fits .1)
+        (λ x q. lost-none (rides m x) (length (m .lightpaths)) u (λ j r. rides-past x j q r))
         _ _
         (seen-lt 64 (λ j. getD low j 0) low-lt ks (record { once = 0; twice = 0 }) (pow-pos 64) (pow-pos 64))
         (seen-lt 64 (λ j. getD high j 0) high-lt ks (record { once = 0; twice = 0 }) (pow-pos 64) (pow-pos 64))
-        (λ x q. omega (arith, a .twice-is x, lost-alike (λ j. has (getD low j 0) x) (rides m x) (length (m .lightpaths)) u (λ j r. low-rides x j q r)))
-        (λ x q. omega (arith, b .twice-is x, lost-alike (λ j. has (getD high j 0) x) (rides m (64 + x)) (length (m .lightpaths)) u (λ j r. high-rides x j q r))))
+        (λ x q.
+        omega (arith, a .twice-is x, lost-alike (λ j. has (getD low j 0) x) (rides m x) (length (m .lightpaths)) u (λ j r. low-rides x j q r)))
+        (λ x q.
+        omega (arith, b .twice-is x, lost-alike (λ j. has (getD high j 0) x) (rides m (64 + x)) (length (m .lightpaths)) u (λ j r. high-rides x j q r))))
 
     and-when : (a : Bool) {b c : Bool} → (a ≡ true → b ≡ c) → (a && b) ≡ (a && c)
     and-when true h = h refl

@@ -20,8 +20,8 @@ use Rattle.judgement.specs.Pieces.{over}
 use Rattle.judgement.specs.Contraction.{ringOf, merges, taken, merged, contract, mergesIn}
 use Rattle.judgement.specs.Inside.{netOf, Fits}
 use Rattle.judgement.specs.Merge.{Table, relabelled, Labelled, PiecesOf, trailOf, mergesBy, ringAt}
-use Rattle.judgement.specs.declared.ways.Ring.{Ring}
-use Rattle.judgement.specs.declared.ways.Ring.the-variants.{Sparing, Nothing}
+use Rattle.judgement.specs.declared.ring.Ring.{Ring}
+use Rattle.judgement.specs.declared.ring.Ring.the-variants.{Sparing, Nothing}
 use Rattle.judgement.proofs.First.{first-alike}
 use Rattle.judgement.proofs.Sums.{sum-most}
 use Rattle.judgement.proofs.Stations.{lowest-least}
@@ -83,7 +83,7 @@ module _ (m : RouteBook) (fits : wellFormed m ≡ true) where
   }
 
   module _ {b : Book} (e : b ≡ bookOf m) {label from to : List ℕ} {made : ℕ} (now : Going m label made)
-    (f : Table 96 (λ k. getD label (getD (b .from) k 0) 0) 96 from) (t : Table 96 (λ k. getD label (getD (b .to) k 0) 0) 96 to) where
+      (f : Table 96 (λ k. getD label (getD (b .from) k 0) 0) 96 from) (t : Table 96 (λ k. getD label (getD (b .to) k 0) 0) 96 to) where
     abbrev net : Network
     net = over (network m) (now .piece)
 
@@ -99,19 +99,28 @@ module _ (m : RouteBook) (fits : wellFormed m ≡ true) where
     pub going-fits : Fits (b .lightpaths) from to
     going-fits = subst (λ (x : Book). Fits (x .lightpaths) from to) (sym e) (labels-fit m fits (now .piece) (now .labelled) from-is to-is)
 
-    module _ {r : Ring} (h : r ≡ firstOf (mergesBy (netOf (b .lightpaths) from to) (b .low) (b .high)) (ringAt (netOf (b .lightpaths) from to) (b .low) (b .high)) Nothing (b .lightpaths) 0) where
+    -- the ring that is found in such a struct
+    abbrev found : Book → Ring
+    found x =
+        let held = netOf (x .lightpaths) from to in
+        firstOf (mergesBy held (x .low) (x .high)) (ringAt held (x .low) (x .high)) Nothing (x .lightpaths) 0
+
+    module _ {r : Ring} (h : r ≡ found b) where
       ring-is : r ≡ cond (ltb next (length (m .lightpaths))) (ringAt net (bookOf m .low) (bookOf m .high) next) Nothing
       unfolding taken
       ring-is =
+          let low = bookOf m .low in
+          let high = bookOf m .high in
+          let n = length (m .lightpaths) in
           h
-          ∙ ap (λ (x : Book). firstOf (mergesBy (netOf (x .lightpaths) from to) (x .low) (x .high)) (ringAt (netOf (x .lightpaths) from to) (x .low) (x .high)) Nothing (x .lightpaths) 0) e
-          ∙ ap (λ (x : Network). firstOf (mergesBy x (bookOf m .low) (bookOf m .high)) (ringAt x (bookOf m .low) (bookOf m .high)) Nothing (length (m .lightpaths)) 0)
-          (sym (net-is m fits (now .piece) (now .labelled) from-is to-is))
-          ∙ first-alike (mergesBy net (bookOf m .low) (bookOf m .high)) (merges m (now .piece)) (ringAt net (bookOf m .low) (bookOf m .high)) (ringAt net (bookOf m .low) (bookOf m .high)) Nothing (length (m .lightpaths)) 0
+          ∙ ap found e
+          ∙ ap (λ (x : Network). firstOf (mergesBy x low high) (ringAt x low high) Nothing n 0) (sym (net-is m fits (now .piece) (now .labelled) from-is to-is))
+          ∙ first-alike (mergesBy net low high) (merges m (now .piece)) (ringAt net low high) (ringAt net low high) Nothing n 0
           (λ k p q. (sym (merges-is m fits (now .piece) k (omega arith)), refl))
-          ∙ first-lowest (merges m (now .piece)) (ringAt net (bookOf m .low) (bookOf m .high)) Nothing (length (m .lightpaths))
+          ∙ first-lowest (merges m (now .piece)) (ringAt net low high) Nothing n
 
-      pub going-next : {s : ℕ} {label′ : List ℕ} → r ≡ Sparing s → Table 64 (λ i. relabelled s (trailingZeros 64 s) (getD label i 0)) 64 label′ → Going m label′ (made + 1)
+      pub going-next : {s : ℕ} {label′ : List ℕ} → r ≡ Sparing s → Table 64 (λ i. relabelled s (trailingZeros 64 s) (getD label i 0)) 64 label′
+          → Going m label′ (made + 1)
       going-next {s} {label′} is u =
           let hit = ring-hit (ltb next (length (m .lightpaths))) (trailOf net (bookOf m .low) (bookOf m .high) next .touched) (sym is ∙ ring-is) in
           let l = ltb-true next (length (m .lightpaths)) (hit .0) in

@@ -62,7 +62,7 @@ module _ (m : RouteBook) (fits : wellFormed m ≡ true) (piece : ℕ → ℕ) {l
 
   -- the label of an end of any lightpath, also of one that there is not: its ends are 0
   module _ (f : Lightpath → ℕ) (z : f noLightpath ≡ 0) (low : (k : ℕ) → k < length (m .lightpaths) → f (getD (m .lightpaths) k noLightpath) < 64)
-    {r : List ℕ} (t : Table 96 (λ k. getD label (getD (padded 96 (map f (m .lightpaths))) k 0) 0) 96 r) where
+      {r : List ℕ} (t : Table 96 (λ k. getD label (getD (padded 96 (map f (m .lightpaths))) k 0) 0) 96 r) where
     none-there : (k : ℕ) → length (m .lightpaths) ≤ k → f (getD (m .lightpaths) k noLightpath) ≡ 0
     none-there k l = ap f (List·getD-eq-default (m .lightpaths) noLightpath {n = k} l) ∙ z
 
@@ -88,7 +88,8 @@ module _ (m : RouteBook) (fits : wellFormed m ≡ true) (piece : ℕ → ℕ) {l
     end-low : (k : ℕ) → getD r k 0 < 64
     end-low k = omega (arith, end-is k, now .falls (f (getD (m .lightpaths) k noLightpath)), all-low k)
 
-  module _ {from to : List ℕ} (a : Table 96 (λ k. getD label (getD (bookOf m .from) k 0) 0) 96 from) (b : Table 96 (λ k. getD label (getD (bookOf m .to) k 0) 0) 96 to) where
+  module _ {from to : List ℕ} (a : Table 96 (λ k. getD label (getD (bookOf m .from) k 0) 0) 96 from)
+      (b : Table 96 (λ k. getD label (getD (bookOf m .to) k 0) 0) 96 to) where
     -- THE LAW of the network: with labels in place of ends it is that over the pieces
     pub net-is : over (network m) piece ≡ netOf (length (m .lightpaths)) from to
     net-is =
@@ -118,7 +119,8 @@ lowest-first s = go (decLt (trailingZeros 64 s) 64)
         z ∙ first-only (has s) (λ k. k) 64 64 0 (nowhere (λ y a b. has-false s y (low-below 64 s y (omega arith))))
 
 -- a ring that is merged
-module _ (m : RouteBook) (fits : wellFormed m ≡ true) (piece : ℕ → ℕ) {label : List ℕ} (now : Labelled m piece label) (k : ℕ) (l : k < length (m .lightpaths)) (ring : merges m piece k ≡ true) where
+module _ (m : RouteBook) (fits : wellFormed m ≡ true) (piece : ℕ → ℕ) {label : List ℕ} (now : Labelled m piece label)
+    (k : ℕ) (l : k < length (m .lightpaths)) (ring : merges m piece k ≡ true) where
   abbrev net : Network
   net = over (network m) piece
 

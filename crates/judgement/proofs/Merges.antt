@@ -22,7 +22,7 @@ use Rattle.judgement.specs.Contraction.{lost, touches, others, round, ri
 use Rattle.judgement.proofs.Tests.{or-l, or-r}
 use Rattle.judgement.proofs.Sums.{sum-less}
 use Rattle.judgement.proofs.Lowest.{least-le}
-use Rattle.judgement.proofs.Sparing.{every-at}
+use Rattle.judgement.proofs.Merging.{every-at}
 use Rattle.judgement.proofs.Rings.{Ring, lowest-label}
 use Rattle.judgement.proofs.Ways.{way-is, way-before}
 use Rattle.judgement.proofs.Rounds.{near-all}

@@ -10,23 +10,23 @@ use native.Mathlib.Decide.{ℕ-discrete, decLt}
 use native.Mathlib.Omega.{arith}
 use lib.Dec.{eqb, ltb}
 use lib.ListN.{length}
-use borrow.Author.Tests.{eqb-true, eq-eqb, lt-ltb, le-ltb}
-use Rattle.book.specs.Bits.{bit, has, put}
-use Rattle.book.proofs.Bits.{has-true, true-has, put-keeps, put-inv, bit-lt, bit-of-zero, bit-or}
-use Rattle.book.proofs.Tests.{and-inv, and-both}
-use Rattle.judgement.specs.Network.{Network}
-use Rattle.judgement.specs.Judgement.{firstOf, sum, network}
-use Rattle.judgement.specs.Ways.{lowestOf, widen, near, leads, far, way}
-use Rattle.judgement.specs.Merge.{but, leadsBy, seenBy}
-use Rattle.judgement.proofs.First.{First, there, nowhere, first, first-only}
-use Rattle.judgement.proofs.Sums.{sum-le}
 use lib.Arith.{digits-mod}
 use lib.Bits.{bitAnd, and-shr, and-step}
-use Rattle.book.specs.Book.{RouteBook, below, wellFormed}
+use borrow.Author.Tests.{eqb-true, eq-eqb, lt-ltb, le-ltb}
+use Rattle.book.specs.Bits.{bit, has, put}
+use Rattle.book.specs.Book.{RouteBook, wellFormed}
+use Rattle.book.proofs.Bits.{has-true, true-has, put-keeps, put-inv, bit-lt, bit-of-zero, bit-or}
+use Rattle.book.proofs.Tests.{and-inv, and-both}
 use Rattle.book.proofs.Bounds.{ends-lt}
+use Rattle.judgement.specs.Network.{Network}
+use Rattle.judgement.specs.Judgement.{firstOf, sum, network}
 use Rattle.judgement.specs.Pieces.{over}
+use Rattle.judgement.specs.Ways.{lowestOf, widen, near, leads, far, way}
 use Rattle.judgement.specs.Contraction.{lost, touches, every, round, ringOf, merges, lowestLabel, merged}
-use Rattle.judgement.specs.declared.ways.Carried.{Carried}
+use Rattle.judgement.specs.Merge.{but, leadsBy, seenBy}
+use Rattle.judgement.specs.declared.ring.Carried.{Carried}
+use Rattle.judgement.proofs.First.{First, there, nowhere, first, first-only}
+use Rattle.judgement.proofs.Sums.{sum-le}
 
 pub or-none : (a : Bool) → (a || false) ≡ a
 or-none true = refl
@@ -117,7 +117,8 @@ module _ (net : Network) (free : ℕ → Bool) where
   unfolding leads far leadsBy
   leads-far x m k h = go (eqb (net .from k) x) refl (and-inv {a = free k} h .1)
     where
-      go : (t : Bool) → eqb (net .from k) x ≡ t → ((t && has m (net .to k)) || (eqb (net .to k) x && has m (net .from k))) ≡ true → bit m (cond t (net .to k) (net .from k)) ≡ 1
+      go : (t : Bool) → eqb (net .from k) x ≡ t → ((t && has m (net .to k)) || (eqb (net .to k) x && has m (net .from k))) ≡ true
+          → bit m (cond t (net .to k) (net .from k)) ≡ 1
       go true e g =
           let z = leads-first {f = true} x m (net .from k) (net .to k) refl (eqb-true _ _ e) in
           true-has m _ (z ∙ ap (λ (q : Bool). (q && has m (net .to k)) || (eqb (net .to k) x && has m (net .from k))) e ∙ g)
@@ -163,7 +164,8 @@ module _ (net : Network) (free : ℕ → Bool) where
     stepOf n x = lowestOf (leads net free x (near net free y n)) (net .count)
 
     -- from what is met in round n + 1 and not before, some lightpath leads into round n; the lowest is taken
-    pub step-is : (n x : ℕ) → has (near net free y n) x ≡ false → bit (near net free y (suc n)) x ≡ 1 → (stepOf n x < net .count) × (bit (near net free y n) (far net free x (stepOf n x)) ≡ 1)
+    pub step-is : (n x : ℕ) → has (near net free y n) x ≡ false → bit (near net free y (suc n)) x ≡ 1
+        → (stepOf n x < net .count) × (bit (near net free y n) (far net free x (stepOf n x)) ≡ 1)
     unfolding near
     step-is n x e h = go (widen-inv (near net free y n) (net .count) x h)
       where
@@ -191,7 +193,8 @@ module _ (net : Network) (free : ℕ → Bool) where
       where
         go : (bit (near net free y n) x ≡ 1 → Under (net .count) (way net free y n x))
             → (bit (near net free y n) (far net free x (stepOf n x)) ≡ 1 → Under (net .count) (way net free y n (far net free x (stepOf n x))))
-            → (b : Bool) → has (near net free y n) x ≡ b → Under (net .count) (cond b (way net free y n x) (stepOf n x ∷ way net free y n (far net free x (stepOf n x))))
+            → (b : Bool) → has (near net free y n) x ≡ b
+            → Under (net .count) (cond b (way net free y n x) (stepOf n x ∷ way net free y n (far net free x (stepOf n x))))
         go stay on true e = stay (true-has _ x e)
         go stay on false e = let s = step-is n x e h in one-more (s .0) (on (s .1))
 
@@ -290,7 +293,7 @@ module _ (m : RouteBook) (fits : wellFormed m ≡ true) (piece : ℕ → ℕ) (k
   abbrev net : Network
   net = over (network m) piece
 
-  pub parted : (piece (network m .from k) ≡ piece (network m .to k) → ⊥) × (round m piece k ≡ true)
+  parted : (piece (network m .from k) ≡ piece (network m .to k) → ⊥) × (round m piece k ≡ true)
   unfolding merges
   parted =
       let a = and-inv {a = not (eqb (piece (network m .from k)) (piece (network m .to k)))} ring in

@@ -95,14 +95,20 @@ module _ (m : RouteBook) (fits : wellFormed m ≡ true) (piece : ℕ → ℕ) {l
       let l = low-lt 64 all (piece (lowest m)) (omega (arith, lowest-lt m fits)) here in
       let w = labels-inv (has (stations m)) piece 64 (trailingZeros 64 all) (low-in 64 all l) in
       le-antisymm
-      (elim (decLt (piece (lowest m)) (trailingZeros 64 all)) [ yes q ↦ absurd (omega (arith, here, low-below 64 all (piece (lowest m)) q)) | no q ↦ omega arith ])
+      (elim (decLt (piece (lowest m)) (trailingZeros 64 all)) [
+        | yes q ↦ absurd (omega (arith, here, low-below 64 all (piece (lowest m)) q))
+        | no q ↦ omega arith
+      ])
       (omega (arith, low, w .3, now .above (w .0) (w .2)))
 
   -- a side given in stations
   stations-same : (d : ℕ) → inStationsBy (stations m) label d ≡ inStations m piece d
-  stations-same d = labels-alike (λ i. has (stations m) i && has d (getD label i 0)) (λ i. has (stations m) i && has d (piece i)) (λ i. i) (λ i. i) 64 (λ i l. (rw (now .same i l), refl))
+  stations-same d =
+      labels-alike (λ i. has (stations m) i && has d (getD label i 0)) (λ i. has (stations m) i && has d (piece i)) (λ i. i) (λ i. i) 64
+      (λ i l. (rw (now .same i l), refl))
 
-  module _ {from to : List ℕ} (a : Table 96 (λ k. getD label (getD (bookOf m .from) k 0) 0) 96 from) (b : Table 96 (λ k. getD label (getD (bookOf m .to) k 0) 0) 96 to) where
+  module _ {from to : List ℕ} (a : Table 96 (λ k. getD label (getD (bookOf m .from) k 0) 0) 96 from)
+      (b : Table 96 (λ k. getD label (getD (bookOf m .to) k 0) 0) 96 to) where
     -- the struct of the book over its pieces
     abbrev overall : Book
     overall = withEnds (bookOf m) from to all
@@ -117,7 +123,8 @@ module _ (m : RouteBook) (fits : wellFormed m ≡ true) (piece : ℕ → ℕ) {l
     side-over : (up up′ : ℕ → Bool) → ((k : ℕ) → k < length (m .lightpaths) → up k ≡ up′ k) → sideBy overall up ≡ pieceSide m piece up′
     side-over up up′ same =
         ap₂ (λ (net : Network) (s : ℕ). sideOf net up 64 s) (sym (net-is m fits piece now a b)) lowest-label
-        ∙ side-alike (over (network m) piece) (over (network m) piece) up up′ (record { count = refl; from = λ k l. refl; to = λ k l. refl; state = same }) 64 (piece (lowest m))
+        ∙ side-alike (over (network m) piece) (over (network m) piece) up up′
+        (record { count = refl; from = λ k l. refl; to = λ k l. refl; state = same }) 64 (piece (lowest m))
 
     up-is : (x k : ℕ) → x < 128 → k < length (m .lightpaths) → upIn overall x k ≡ without m x k
     up-is x k l q = go (decLt x 64)
@@ -136,9 +143,10 @@ module _ (m : RouteBook) (fits : wellFormed m ≡ true) (piece : ℕ → ℕ) {l
 
     cut-given : givenIn (stations m) label (cutOrOkayIn overall) ≡ cutOver m piece
     cut-given =
-        first-map (givenIn (stations m) label) (λ x. not (eqb (sideBy overall (upIn overall x)) all)) (λ x. Cut x (sideBy overall (upIn overall x))) Okay (length (m .spans)) 0
-        ∙ first-alike (λ x. not (eqb (sideBy overall (upIn overall x)) all)) (λ x. not (pieceWhole m piece (without m x)))
-        (λ x. Cut x (inStationsBy (stations m) label (sideBy overall (upIn overall x)))) (λ x. Cut x (inStations m piece (pieceSide m piece (without m x)))) Okay (length (m .spans)) 0
+        let t : ℕ → Bool = λ x. not (eqb (sideBy overall (upIn overall x)) all) in
+        first-map (givenIn (stations m) label) t (λ x. Cut x (sideBy overall (upIn overall x))) Okay (length (m .spans)) 0
+        ∙ first-alike t (λ x. not (pieceWhole m piece (without m x))) (λ x. Cut x (inStationsBy (stations m) label (sideBy overall (upIn overall x))))
+        (λ x. Cut x (inStations m piece (pieceSide m piece (without m x)))) Okay (length (m .spans)) 0
         (λ x p q.
         let e = side-out x (omega (arith, counts m fits)) in
         (ap (λ (d : ℕ). not (eqb d all)) e, ap (Cut x) (ap (inStationsBy (stations m) label) e ∙ stations-same (pieceSide m piece (without m x)))))
@@ -161,7 +169,9 @@ module _ (m : RouteBook) (fits : wellFormed m ≡ true) (piece : ℕ → ℕ) {l
     made =
         o .is
         ∙ ap (λ (s : ℕ). withEnds b (p .from) (p .to) s)
-        (o .stations ∙ ap (λ (x : Book). labels (has (x .stations)) (λ i. getD label i 0) 64) e ∙ labels-alike (has (stations m)) (has (stations m)) (λ i. getD label i 0) piece 64 (λ i l. (refl, now .same i l)))
+        (o .stations
+        ∙ ap (λ (x : Book). labels (has (x .stations)) (λ i. getD label i 0) 64) e
+        ∙ labels-alike (has (stations m)) (has (stations m)) (λ i. getD label i 0) piece 64 (λ i l. (refl, now .same i l)))
         ∙ ap (λ (x : Book). withEnds x (p .from) (p .to) all) e
 
     pub over-usable : Usable p
@@ -172,13 +182,15 @@ module _ (m : RouteBook) (fits : wellFormed m ≡ true) (piece : ℕ → ℕ) {l
     over-given = ap₂ (λ (x y : Book). givenIn (x .stations) label (splitOrIn y)) e made ∙ split-given from-is to-is
 
 -- two answers of one search
-first-both : {A B C : Type 0} (g : A → B → C) (t : ℕ → Bool) (f : ℕ → A) (h : ℕ → B) (o : A) (u : B) (d k : ℕ) → g (firstOf t f o d k) (firstOf t h u d k) ≡ firstOf t (λ x. g (f x) (h x)) (g o u) d k
+first-both : {A B C : Type 0} (g : A → B → C) (t : ℕ → Bool) (f : ℕ → A) (h : ℕ → B) (o : A) (u : B) (d k : ℕ)
+    → g (firstOf t f o d k) (firstOf t h u d k) ≡ firstOf t (λ x. g (f x) (h x)) (g o u) d k
 unfolding firstOf
 first-both g t f h o u zero k = refl
 first-both g t f h o u (suc d) k = go (t k) (first-both g t f h o u d (suc k))
   where
     go : (b : Bool) → g (firstOf t f o d (suc k)) (firstOf t h u d (suc k)) ≡ firstOf t (λ x. g (f x) (h x)) (g o u) d (suc k)
-        → g (cond b (f k) (firstOf t f o d (suc k))) (cond b (h k) (firstOf t h u d (suc k))) ≡ cond b (g (f k) (h k)) (firstOf t (λ x. g (f x) (h x)) (g o u) d (suc k))
+        → g (cond b (f k) (firstOf t f o d (suc k))) (cond b (h k) (firstOf t h u d (suc k)))
+        ≡ cond b (g (f k) (h k)) (firstOf t (λ x. g (f x) (h x)) (g o u) d (suc k))
     go true ih = refl
     go false ih = ih
 
@@ -187,15 +199,18 @@ abbrev pub overFirst : Verdict → ℕ → Overload → Contracted
 overFirst v n (overload.At x l w) = Told (Over x l w) 0
 overFirst v n overload.Nowhere = Told v n
 
+-- the first span of a struct that is over its limit
+abbrev overIn : Book → Overload
+overIn b = firstOf (λ x. ltb (limitIn b x) (loadIn b x)) (λ x. overload.At x (loadIn b x) (limitIn b x)) overload.Nowhere (b .spans) 0
+
 -- THE LAW of the answer
 pub contracted-is : (m : RouteBook) → wellFormed m ≡ true → {b : Book} → b ≡ bookOf m → {p : Overload}
-    → p ≡ firstOf (λ x. ltb (limitIn b x) (loadIn b x)) (λ x. overload.At x (loadIn b x) (limitIn b x)) overload.Nowhere (b .spans) 0
-    → overFirst (splitOver m (pieces m)) (mergesIn m 4096 (λ i. i)) p ≡ contractedOf (good m)
+    → p ≡ overIn b → overFirst (splitOver m (pieces m)) (mergesIn m 4096 (λ i. i)) p ≡ contractedOf (good m)
 contracted-is m fits {b} e {p} h =
     let v = splitOver m (pieces m) in
     let n = mergesIn m 4096 (λ i. i) in
     let held = bookOf m in
-    ap (overFirst v n) (h ∙ ap (λ (y : Book). firstOf (λ x. ltb (limitIn y x) (loadIn y x)) (λ x. overload.At x (loadIn y x) (limitIn y x)) overload.Nowhere (y .spans) 0) e)
+    ap (overFirst v n) (h ∙ ap overIn e)
     ∙ first-map (overFirst v n) (λ x. ltb (limitIn held x) (loadIn held x)) (λ x. overload.At x (loadIn held x) (limitIn held x)) overload.Nowhere (length (m .spans)) 0
     ∙ first-alike (λ x. ltb (limitIn held x) (loadIn held x)) (λ x. ltb (limit m x) (load m x))
     (λ x. Told (Over x (loadIn held x) (limitIn held x)) 0) (λ x. Told (Over x (load m x) (limit m x)) 0) (Told v n) (length (m .spans)) 0

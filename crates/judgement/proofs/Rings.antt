@@ -20,7 +20,6 @@ use Rattle.judgement.specs.Contraction.{lost, touches, lowestLabel, merg
 use Rattle.judgement.proofs.Tests.{or-inv}
 use Rattle.judgement.proofs.Chains.{join-trans, join-sym}
 use Rattle.judgement.proofs.Lowest.{Passes, lowest-found}
-use Rattle.judgement.proofs.Sparing.{lost-none}
 use Rattle.judgement.proofs.Pieces.{piece-joined}
 
 -- an end of the first lightpath, or of a later one
@@ -89,6 +88,11 @@ module _ (net : Network) (free out : ℕ → Bool) where
     where
       base : (q : ℕ) → touches net ks q ≡ true → Joined net up x q
       base q h = ⊎-elim (λ j. j) (λ j. j) (way-ends w e q h)
+
+lost-none : (ks : List ℕ) → lost (λ k. false) ks ≡ 0
+unfolding lost
+lost-none [] = refl
+lost-none (k ∷ ks) = lost-none ks
 
 -- a way over the pieces that ends where it starts, of which no span carries two
 pub record Ring (m : RouteBook) (piece : ℕ → ℕ) (ks : List ℕ) : Type 0 where

@@ -18,13 +18,14 @@ use Rattle.judgement.specs.Network.{Network}
 use Rattle.judgement.specs.Ways.{widen, near, far, way}
 use Rattle.judgement.specs.Merge.{but, spreadBy, RoundsTo, withPath, gathered, emptyTrail, nearerBy, trailOf, mergesBy, ringAt}
 use Rattle.judgement.specs.declared.ways.Rounds.{Rounds}
-use Rattle.judgement.specs.declared.ways.Trail.{Trail}
-use Rattle.judgement.specs.declared.ways.Ring.{Ring}
-use Rattle.judgement.specs.declared.ways.Ring.the-variants.{Sparing, Nothing}
+use Rattle.judgement.specs.declared.ring.Trail.{Trail}
+use Rattle.judgement.specs.declared.ring.Ring.{Ring}
+use Rattle.judgement.specs.declared.ring.Ring.the-variants.{Sparing, Nothing}
 use Rattle.judgement.proofs.Merging.{stepOf, step-is, way-stay, way-step, met, ended}
 
 -- one lightpath of a round
-pub widen-step : (net : Network) (free : ℕ → Bool) (old k : ℕ) → widen net free old (k + 1) ≡ spreadBy (free k) old (net .from k) (net .to k) (widen net free old k)
+pub widen-step : (net : Network) (free : ℕ → Bool) (old k : ℕ)
+    → widen net free old (k + 1) ≡ spreadBy (free k) old (net .from k) (net .to k) (widen net free old k)
 unfolding widen spreadBy
 widen-step net free old k = ap (widen net free old) (add-one k)
 
@@ -99,7 +100,8 @@ module _ (net : Network) (low high : List ℕ) (k : ℕ) where
     pub rest : gathered net low high (way net (but k) (net .to k) left (t .at)) t ≡ trailOf net low high k
 
   pub trailing-start : {r : Rounds} {t : Trail} → RoundsTo net (but k) (net .to k) (net .from k) r → (net .from k ≡ net .to k → ⊥) → net .from k < 64
-      → has (near net (but k) (net .to k) (r .last)) (net .from k) ≡ true → t ≡ withPath net low high (emptyTrail net low high (net .to k)) k → Trailing (r .last) (r .last) t
+      → has (near net (but k) (net .to k) (r .last)) (net .from k) ≡ true → t ≡ withPath net low high (emptyTrail net low high (net .to k)) k
+      → Trailing (r .last) (r .last) t
   unfolding trailOf gathered
   trailing-start {r} {t} told ne l h e =
       let z : t .at ≡ net .from k = ap (λ (u : Trail). u .at) e ∙ ap (λ (b : Bool). cond b (net .to k) (net .from k)) (ne-eqb (net .from k) (net .to k) ne) in
@@ -108,9 +110,9 @@ module _ (net : Network) (low high : List ℕ) (k : ℕ) where
         at-low = omega arith;
         met = rw z (true-has _ _ h);
         rest =
-          ap (λ (x : ℕ). gathered net low high (way net (but k) (net .to k) (r .last) x) t) z
-          ∙ ap (λ (ks : List ℕ). gathered net low high ks t) (sym (told .same h))
-          ∙ ap (gathered net low high (way net (but k) (net .to k) 64 (net .from k))) e;
+            ap (λ (x : ℕ). gathered net low high (way net (but k) (net .to k) (r .last) x) t) z
+            ∙ ap (λ (ks : List ℕ). gathered net low high ks t) (sym (told .same h))
+            ∙ ap (gathered net low high (way net (but k) (net .to k) 64 (net .from k))) e;
       }
 
   -- where the lightpath comes from that `nearer` looks for
@@ -121,7 +123,8 @@ module _ (net : Network) (low high : List ℕ) (k : ℕ) where
       step-is net (but k) (net .to k) (left - 1) (t .at) e (subst (λ (n : ℕ). bit (near net (but k) (net .to k) n) (t .at) ≡ 1) z (now .met)) .0
 
   trailing-suc : {last n : ℕ} {t : Trail} → ((j : ℕ) → (net .from j < 64) × (net .to j < 64)) → Trailing last (suc n) t
-      → (b : Bool) → has (near net (but k) (net .to k) n) (t .at) ≡ b → Trailing last n (cond b t (withPath net low high t (stepOf net (but k) (net .to k) n (t .at))))
+      → (b : Bool) → has (near net (but k) (net .to k) n) (t .at) ≡ b
+      → Trailing last n (cond b t (withPath net low high t (stepOf net (but k) (net .to k) n (t .at))))
   unfolding gathered far
   trailing-suc {last} {n} {t} ends now true e = record {
     few = omega (arith, now .few);
@@ -147,7 +150,8 @@ module _ (net : Network) (low high : List ℕ) (k : ℕ) where
   unfolding nearerBy
   trailing-next {last} {left} {t} ends now l e =
       let z : left ≡ suc (left - 1) = omega arith in
-      subst (Trailing last (left - 1)) (sym e) (trailing-suc ends (subst (λ (n : ℕ). Trailing last n t) z now) (has (near net (but k) (net .to k) (left - 1)) (t .at)) refl)
+      let now′ = subst (λ (n : ℕ). Trailing last n t) z now in
+      subst (Trailing last (left - 1)) (sym e) (trailing-suc ends now′ (has (near net (but k) (net .to k) (left - 1)) (t .at)) refl)
 
   pub trailing-done : {last left : ℕ} {t : Trail} → Trailing last left t → left ≤ 0 → t ≡ trailOf net low high k
   unfolding gathered way
@@ -171,7 +175,8 @@ module _ (net : Network) (low high : List ℕ) (k : ℕ) where
     module _ (h : has (near net (but k) (net .to k) 64) (net .from k) ≡ true) {t : Trail} (e : t ≡ trailOf net low high k) where
       pub low-twice : (t .low .twice ≡ 0 → ⊥) → Answer Nothing
       unfolding mergesBy
-      low-twice n = rw (ne-eqb (net .from k) (net .to k) ne, h, ne-eqb (trailOf net low high k .low .twice) 0 (λ z. n (ap (λ (u : Trail). u .low .twice) e ∙ z)))
+      low-twice n =
+          rw (ne-eqb (net .from k) (net .to k) ne, h, ne-eqb (trailOf net low high k .low .twice) 0 (λ z. n (ap (λ (u : Trail). u .low .twice) e ∙ z)))
 
       pub high-twice : t .low .twice ≡ 0 → (t .high .twice ≡ 0 → ⊥) → Answer Nothing
       unfolding mergesBy

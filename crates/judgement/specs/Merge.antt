@@ -19,10 +19,10 @@ use Rattle.judgement.specs.declared.Verdict.{Verdict}
 use Rattle.judgement.specs.declared.Verdict.the-variants.{Over, Split, Cut, Okay}
 use Rattle.judgement.specs.declared.merge.Pieces.{Pieces}
 use Rattle.judgement.specs.declared.ways.Rounds.{Rounds}
-use Rattle.judgement.specs.declared.ways.Carried.{Carried}
-use Rattle.judgement.specs.declared.ways.Trail.{Trail}
-use Rattle.judgement.specs.declared.ways.Ring.{Ring}
-use Rattle.judgement.specs.declared.ways.Ring.the-variants.{Sparing}
+use Rattle.judgement.specs.declared.ring.Carried.{Carried}
+use Rattle.judgement.specs.declared.ring.Trail.{Trail}
+use Rattle.judgement.specs.declared.ring.Ring.{Ring}
+use Rattle.judgement.specs.declared.ring.Ring.the-variants.{Sparing}
 
 -- all lightpaths but one
 abbrev pub but : ℕ → ℕ → Bool

@@ -1,9 +1,11 @@
 // The judgement of a choice of routes: loads, sides, the verdict, the question about a span, and the score. docs/JUDGEMENT.md says what each is.
+// The second engine judges by contraction, which docs/CONTRACTION.md tells.
 pub mod kind;
 mod load;
 mod merge;
 mod pairs;
 mod question;
+mod ring;
 mod side;
 mod ways;
 

@@ -4,12 +4,12 @@ use crate::Verdict;
 use crate::kind;
 use crate::load;
 use crate::load::Overload;
+use crate::ring;
+use crate::ring::Ring;
 use crate::side::Side;
-use crate::ways;
-use crate::ways::Ring;
 use book::Book;
 ghost use mathlib.Core.Path.{_≡_};
-ghost use mathlib.Core.Bool.{true, cond, _&&_};
+ghost use mathlib.Core.Bool.{true, _&&_};
 ghost use Prim.Native.Nat.{ℕ, _<_};
 ghost use lib.ListN.{getD};
 ghost use lib.Count.{trailingZeros};
@@ -95,7 +95,7 @@ fn pieces_of(b: Book) -> Pieces
     loop {
         let from = end_labels(starts, label);
         let to = end_labels(ends, label);
-        let ring = ways::first_ring(&from, &to, &b.low, &b.high, n);
+        let ring = ring::first_ring(&from, &to, &b.low, &b.high, n);
         match ring {
             Ring::Sparing(touched) => {
                 let next = relabel(label, Side { mask: touched });
@@ -103,7 +103,10 @@ fn pieces_of(b: Book) -> Pieces
                 merges += 1;
             }
             Ring::Nothing => {
-                return Pieces { label: label, merges: merges };
+                return Pieces {
+                    label: label,
+                    merges: merges,
+                };
             }
         }
     }

@@ -29,7 +29,8 @@ judged-over-requires c κs = (c .before .before .before .before .before .before 
 
 returns : tie.Need-returns
 returns c m e good =
-    ap (overFirst (splitOver m (pieces m)) (mergesIn m 4096 (λ i. i))) (sym (c .before .first .given .1)) ∙ contracted-is m good e (c .before .before .before .first-over .ensures)
+    ap (overFirst (splitOver m (pieces m)) (mergesIn m 4096 (λ i. i))) (sym (c .before .first .given .1))
+    ∙ contracted-is m good e (c .before .before .before .first-over .ensures)
 
 returns-2 : tie.Need-returns-2
 returns-2 c m e good =

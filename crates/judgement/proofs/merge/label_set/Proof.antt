@@ -42,7 +42,8 @@ loop-less c = search needs
 loop-again : tie.Need-loop-again Inv-loop μ-loop
 loop-again c =
     let l = c .before .before .before .loop in
-    (search needs, c .put-if .ensures ∙ ap₂ (λ (t : Bool) (x : ℕ). putIf t x (getD (c .before .before .before .before .args .t2) (l .i) 0)) (c .before .has .ensures) (l .inv .1) ∙ sym (labels-next _ _ _))
+    let q = getD (c .before .before .before .before .args .t2) (l .i) 0 in
+    (search needs, c .put-if .ensures ∙ ap₂ (λ (t : Bool) (x : ℕ). putIf t x q) (c .before .has .ensures) (l .inv .1) ∙ sym (labels-next _ _ _))
 
 returns : tie.Need-returns Inv-loop μ-loop
 returns c = rw (le-antisymm (c .before .loop .inv .0) (c .loop-test .left)) at (c .before .loop .inv .1)

@@ -36,7 +36,9 @@ loop-less : tie.Need-loop-less Inv-loop μ-loop
 loop-less c = search needs
 
 loop-again : tie.Need-loop-again Inv-loop μ-loop
-loop-again c = (search needs, filled-next _ _ (search needs) (rw (c .before .before .before .lowest .ensures) at (c .one-label .ensures)) (c .before .before .loop .inv .1))
+loop-again c =
+    let is = rw (c .before .before .before .lowest .ensures) at (c .one-label .ensures) in
+    (search needs, filled-next _ _ (search needs) is (c .before .before .loop .inv .1))
 
 returns : tie.Need-returns Inv-loop μ-loop
 returns c = filled-done _ _ (c .loop-test .left) (c .before .loop .inv .1)

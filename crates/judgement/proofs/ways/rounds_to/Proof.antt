@@ -34,7 +34,9 @@ widened-requires : tie.Need-widened-requires Inv-loop μ-loop
 widened-requires c κs = search needs
 
 returns-2 : tie.Need-returns-2 Inv-loop μ-loop
-returns-2 c = rounding-same _ _ _ _ (c .before .before .before .before .before .before .before .loop .inv) (sym (c .before .before .before .widened .ensures) ∙ c .if2 .taken)
+returns-2 c =
+    let w = c .before .before .before in
+    rounding-same _ _ _ _ (w .before .before .before .before .loop .inv) (sym (w .widened .ensures) ∙ c .if2 .taken)
 
 add-last : tie.Need-add-last Inv-loop μ-loop
 add-last c = search needs
@@ -49,7 +51,9 @@ loop-less : tie.Need-loop-less Inv-loop μ-loop
 loop-less c = search needs
 
 loop-again : tie.Need-loop-again Inv-loop μ-loop
-loop-again c = rounding-next _ _ _ _ (c .before .before .before .before .before .before .before .loop .inv) (c .before .before .before .before .before .before .loop-test .taken) (c .before .before .before .widened .ensures)
+loop-again c =
+    let w = c .before .before .before in
+    rounding-next _ _ _ _ (w .before .before .before .before .loop .inv) (w .before .before .before .loop-test .taken) (w .widened .ensures)
 
 returns-3 : tie.Need-returns-3 Inv-loop μ-loop
 returns-3 c = rounding-all _ _ _ _ (c .before .loop .inv) (c .loop-test .left)

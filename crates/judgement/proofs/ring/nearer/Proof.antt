@@ -4,8 +4,8 @@ use mathlib.Core.Path.{sym, _∙_}
 use native.Mathlib.Omega.{arith}
 use Prim.Native.Nat.{_<_}
 use Rattle.judgement.specs.Merge.{nearerBy}
-use Rattle.judgement.proofs.ways.nearer.Statement.{statement}
-use Rattle.judgement.proofs.ways.nearer.Tie as tie
+use Rattle.judgement.proofs.ring.nearer.Statement.{statement}
+use Rattle.judgement.proofs.ring.nearer.Tie as tie
 
 -- the lightpath that was found
 low : (c : tie.After-leading) → (c .leading .result < c .before .before .before .args .n) × (c .leading .result < 96)

@@ -1,7 +1,7 @@
 -- Each field of the trail is made by its own function, from the same field before.
 use borrow.Author.Needs.{needs}
-use Rattle.judgement.proofs.ways.Trail.by.Statement.{statement}
-use Rattle.judgement.proofs.ways.Trail.by.Tie as tie
+use Rattle.judgement.proofs.ring.Trail.by.Statement.{statement}
+use Rattle.judgement.proofs.ring.Trail.by.Tie as tie
 
 with-ends-requires : tie.Need-with-ends-requires
 with-ends-requires c κs = search needs

@@ -3,15 +3,16 @@
 use borrow.Author.Needs.{needs}
 use mathlib.Core.Path.{_≡_}
 use native.Mathlib.Omega.{arith}
-use Prim.Native.Nat.{_-_, _≤_, _<_}
+use Prim.Native.Nat.{ℕ, _-_, _≤_, _<_}
 use lib.ListN.{getD}
 use denote.Ref.{now}
+use Rattle.judgement.specs.Network.{Network}
 use Rattle.judgement.specs.Ways.{near}
 use Rattle.judgement.specs.Inside.{netOf}
 use Rattle.judgement.specs.Merge.{but}
 use Rattle.judgement.proofs.Trails.{Trailing, trailing-start, trailing-leads, trailing-next, trailing-done}
-use Rattle.judgement.proofs.ways.ring_trail.Statement.{statement}
-use Rattle.judgement.proofs.ways.ring_trail.Tie as tie
+use Rattle.judgement.proofs.ring.ring_trail.Statement.{statement}
+use Rattle.judgement.proofs.ring.ring_trail.Tie as tie
 
 abbrev Inv-loop : tie.InvT-loop
 Inv-loop from to low high k n sets t₀ left₀ t left = Trailing (netOf n from to) low high k left₀ left t
@@ -52,32 +53,39 @@ loop-holds c =
     trailing-start _ _ _ _ (p .4) (p .3) (p .1 .from-low _) (p .5) (c .by .ensures)
 
 -- the round that the way comes to
-near-by : (c : tie.In-loop Inv-loop μ-loop)
-    → (c .before .loop .left - 1 < 65)
-    × (getD (c .before .before .before .before .before .before .before .before .before .args .r .sets) (c .before .loop .left - 1) 0
-    ≡ near
-      (netOf (c .before .before .before .before .before .before .before .before .before .args .n) (now (c .before .before .before .before .before .before .before .before .before .args .from)) (now (c .before .before .before .before .before .before .before .before .before .args .to)))
-      (but (c .before .before .before .before .before .before .before .before .before .args .k))
-      (getD (now (c .before .before .before .before .before .before .before .before .before .args .to)) (c .before .before .before .before .before .before .before .before .before .args .k) 0)
-      (c .before .loop .left - 1))
-near-by c =
-    let told = c .before .before .before .before .before .before .before .before .before .pre .4 in
-    let l : c .before .loop .left ≤ c .before .before .before .before .before .before .before .before .before .args .r .last = c .before .loop .inv .few in
-    (omega (arith, told .few, l), told .each (c .before .loop .left - 1) (omega (arith, l)))
+module _ (c : tie.In-loop Inv-loop μ-loop) where
+  abbrev k : ℕ
+  k = c .before .before .before .before .before .before .before .before .before .args .k
+
+  abbrev net : Network
+  net =
+      netOf (c .before .before .before .before .before .before .before .before .before .args .n)
+      (now (c .before .before .before .before .before .before .before .before .before .args .from))
+      (now (c .before .before .before .before .before .before .before .before .before .args .to))
+
+  few-left : c .before .loop .left ≤ c .before .before .before .before .before .before .before .before .before .args .r .last
+  few-left = c .before .loop .inv .few
+
+  left-low : c .before .loop .left - 1 < 65
+  left-low = omega (arith, c .before .before .before .before .before .before .before .before .before .pre .4 .few, few-left)
+
+  round-is : getD (c .before .before .before .before .before .before .before .before .before .args .r .sets) (c .before .loop .left - 1) 0
+      ≡ near net (but k) (net .to k) (c .before .loop .left - 1)
+  round-is = c .before .before .before .before .before .before .before .before .before .pre .4 .each (c .before .loop .left - 1) (omega (arith, few-left))
 
 sub-left : tie.Need-sub-left Inv-loop μ-loop
 sub-left c = search needs
 
 mul-t32 : tie.Need-mul-t32 Inv-loop μ-loop
-mul-t32 c = omega (arith, near-by c .0)
+mul-t32 c = omega (arith, left-low c)
 
 array-read-t35 : tie.Need-array-read-t35 Inv-loop μ-loop
-array-read-t35 c = near-by c .0
+array-read-t35 c = left-low c
 
 nearer-requires : tie.Need-nearer-requires Inv-loop μ-loop
 nearer-requires c κs =
     let p = c .before .before .before .before .before .before .before .before .before .pre in
-    (c .before .loop .inv .at-low, p .1, p .2, rw (near-by c .1) (trailing-leads _ _ _ _ (c .before .loop .inv) (c .loop-test .taken)))
+    (c .before .loop .inv .at-low, p .1, p .2, rw (round-is c) (trailing-leads _ _ _ _ (c .before .loop .inv) (c .loop-test .taken)))
 
 loop-less : tie.Need-loop-less Inv-loop μ-loop
 loop-less c = search needs
@@ -85,7 +93,8 @@ loop-less c = search needs
 loop-again : tie.Need-loop-again Inv-loop μ-loop
 loop-again c =
     let fits = c .before .before .before .before .before .before .before .before .before .before .pre .1 in
-    trailing-next _ _ _ _ (λ j. (fits .from-low j, fits .to-low j)) (c .before .before .loop .inv) (c .before .loop-test .taken) (rw (near-by (c .before) .1) at (c .nearer .ensures))
+    trailing-next _ _ _ _ (λ j. (fits .from-low j, fits .to-low j)) (c .before .before .loop .inv) (c .before .loop-test .taken)
+    (rw (round-is (c .before)) at (c .nearer .ensures))
 
 returns : tie.Need-returns Inv-loop μ-loop
 returns c = trailing-done _ _ _ _ (c .before .loop .inv) (c .loop-test .left)

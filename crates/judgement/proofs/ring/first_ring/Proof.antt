@@ -4,11 +4,11 @@ use mathlib.Core.Path.{sym, _∙_}
 use Prim.Native.Nat.{_-_}
 use Rattle.judgement.specs.Inside.{netOf}
 use Rattle.judgement.specs.Merge.{mergesBy, ringAt}
-use Rattle.judgement.specs.declared.ways.Ring.the-variants.{Nothing}
+use Rattle.judgement.specs.declared.ring.Ring.the-variants.{Nothing}
 use Rattle.judgement.proofs.First.{Looking, looking-start, looking-next, looking-hit, looking-end}
 use Rattle.judgement.proofs.Trails.{ring-hit, ring-miss}
-use Rattle.judgement.proofs.ways.first_ring.Statement.{statement}
-use Rattle.judgement.proofs.ways.first_ring.Tie as tie
+use Rattle.judgement.proofs.ring.first_ring.Statement.{statement}
+use Rattle.judgement.proofs.ring.first_ring.Tie as tie
 
 abbrev Inv-loop : tie.InvT-loop
 Inv-loop from to low high n k₀ k = Looking (mergesBy (netOf n from to) low high) (ringAt (netOf n from to) low high) Nothing n k

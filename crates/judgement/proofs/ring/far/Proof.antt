@@ -1,7 +1,7 @@
 -- The test of the branch is the definition's own.
 use borrow.Author.Tests.{eq-eqb, ne-eqb}
-use Rattle.judgement.proofs.ways.far.Statement.{statement}
-use Rattle.judgement.proofs.ways.far.Tie as tie
+use Rattle.judgement.proofs.ring.far.Statement.{statement}
+use Rattle.judgement.proofs.ring.far.Tie as tie
 
 returns : tie.Need-returns
 returns c = rw (eq-eqb _ _ (c .if1 .taken))
