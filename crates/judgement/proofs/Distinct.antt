@@ -9,7 +9,7 @@ use Rattle.book.specs.Bits.{bit, has}
 use Rattle.book.proofs.Bits.{has-true, true-has}
 use Rattle.judgement.specs.Network.{Network}
 use Rattle.judgement.specs.Ways.{Runs, In, now, later, Distinct, empty, extra, Way, hop, near, way}
-use Rattle.judgement.proofs.Ways.{near-kept, stepOf, stepTo, step-is}
+use Rattle.judgement.proofs.FirstWays.{near-kept, stepOf, stepTo, step-is}
 
 -- what is used may be used
 pub way-free : (net : Network) (free : ℕ → Bool) {x y : ℕ} {ks : List ℕ} → Way net free x ks y → (k : ℕ) → In k ks → free k ≡ true

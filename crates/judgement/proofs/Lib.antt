@@ -26,7 +26,7 @@ pub mod Labels
 pub mod Pieces
 pub mod Lowest
 pub mod Rings
-pub mod Ways
+pub mod FirstWays
 pub mod Rounds
 pub mod Distinct
 pub mod Merges

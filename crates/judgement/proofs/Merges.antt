@@ -24,7 +24,7 @@ use Rattle.judgement.proofs.Sums.{sum-less}
 use Rattle.judgement.proofs.Lowest.{least-le}
 use Rattle.judgement.proofs.Merging.{every-at}
 use Rattle.judgement.proofs.Rings.{Ring, lowest-label}
-use Rattle.judgement.proofs.Ways.{way-is, way-before}
+use Rattle.judgement.proofs.FirstWays.{way-is, way-before}
 use Rattle.judgement.proofs.Rounds.{near-all}
 use Rattle.judgement.proofs.Distinct.{way-free, way-below, in-cons, way-distinct}
 

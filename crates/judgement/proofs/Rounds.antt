@@ -15,7 +15,7 @@ use Rattle.judgement.specs.Network.{Network}
 use Rattle.judgement.specs.Inside.{size}
 use Rattle.judgement.specs.Ways.{Before, Way, here, hop, widen, near, way}
 use Rattle.judgement.proofs.Sets.{size-le, size-same, size-most, size-some}
-use Rattle.judgement.proofs.Ways.{near-kept, near-start, near-step, stepOf, stepTo, way-is, way-before}
+use Rattle.judgement.proofs.FirstWays.{near-kept, near-start, near-step, stepOf, stepTo, way-is, way-before}
 
 -- what holds of round d and is handed on holds of every later round
 later : (P : ℕ → Type 0) (d : ℕ) → P d → ((n : ℕ) → d ≤ n → P n → P (suc n)) → (n : ℕ) → d ≤ n → P n
