@@ -2,3 +2,4 @@
 
 /// The operations, as safe functions.
 pub mod face;
+pub mod books;
