@@ -1,6 +1,6 @@
 //! The eight numbers that docs/FACE.md gives to each answer of the twin.
 
-use twin::{Answer, Book, Refusal, Verdict};
+use twin::{Answer, Book, Contracted, Refusal, Verdict};
 
 /// A kind, the number and place of a refusal, and what the answer carries.
 pub type Eight = [u64; 8];
@@ -54,8 +54,8 @@ pub fn judged(answer: Result<Verdict, Refusal>) -> Eight {
 }
 
 /// What contraction tells: the verdict and the number of merges.
-pub fn contracted(answer: Result<(Verdict, u32), Refusal>) -> Eight {
-    eight(answer, |(told, merges)| verdict(told, u64::from(merges)))
+pub fn contracted(answer: Result<Contracted, Refusal>) -> Eight {
+    eight(answer, |told| verdict(told.verdict, told.merges as u64))
 }
 
 /// What the score tells.
