@@ -1,6 +1,8 @@
 -- The laws of crate judgement; docs/PROMISES.md lists the theorems among them.
 pub mod Sets
 pub mod Joins
+pub mod Rows
+pub mod Worklist
 pub mod Alike
 pub mod Stations
 pub mod Whole
