@@ -2,6 +2,8 @@
 pub mod Tests
 pub mod Sets
 pub mod Joins
+pub mod Rows
+pub mod Worklist
 pub mod Alike
 pub mod Stations
 pub mod Whole

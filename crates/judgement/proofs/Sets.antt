@@ -1,15 +1,16 @@
 -- Sets of numbers below a width, as numbers: the lowest member, and how many there are, so that a set within another that has as many is the other.
 -- All of it is over the width, so that a side of one word and one of several rest on the same laws.
 use Prim.Native.Nat.{ℕ, zero, suc, _+_, _/_, _%_, _^_, _<_, _≤_, min, zero-le}
-use mathlib.Core.Path.{_≡_, refl, sym, ap, _∙_}
+use mathlib.Core.Path.{_≡_, refl, sym, ap, ap₂, _∙_}
 use mathlib.Core.Logic.{_↔_}
+use native.Mathlib.Nat.{le-refl}
 use native.Mathlib.Decide.{decLt, ℕ-discrete}
 use native.Mathlib.Omega.{arith}
 use lib.Arith.{lt-one, digits-mod}
-use lib.Bits.{bitAnd, and-shr, and-step}
+use lib.Bits.{bitAnd, bitXor, differ, and-shr, and-step, xor-shr, xor-step}
 use lib.Count.{trailingZeros, under, ones, ones-step}
-use Rattle.book.specs.Bits.{bit}
-use Rattle.book.proofs.Bits.{bit-lt, bit-zero, bit-suc, bit-of-zero, bit-iff, bit-ext}
+use Rattle.book.specs.Bits.{bit, put}
+use Rattle.book.proofs.Bits.{bit-lt, bit-zero, bit-suc, bit-of-zero, bit-iff, bit-ext, put-same, put-other}
 use Rattle.judgement.specs.Inside.{size}
 
 -- two sets below the width with the same members are equal
@@ -52,6 +53,41 @@ low-lt k x i l e = go (decLt (trailingZeros k x) k)
     go (yes y) = y
     go (no n) = absurd (omega (arith, low-below k x i (omega arith)))
 
+-- what a set has beyond a part of it, by the machine's xor: there is something unless they are one, and the lowest of it is in the set and not in the part
+bit-xor : (a b i : ℕ) → bit (bitXor a b) i ≡ differ (bit a i) (bit b i)
+unfolding bit
+bit-xor a b i = rw (xor-shr, xor-step) (digits-mod _ (differ-lt (a / 2 ^ i % 2) (b / 2 ^ i % 2) (omega arith) (omega arith)))
+  where
+    differ-lt : (x y : ℕ) → x < 2 → y < 2 → differ x y < 2
+    differ-lt zero y p q = q
+    differ-lt (suc x) zero p q = p
+    differ-lt (suc x) (suc y) p q = differ-lt x y (omega arith) (omega arith)
+
+differ-none : (x y : ℕ) → x < 2 → y < 2 → differ x y ≡ 0 → x ≡ y
+differ-none zero y p q e = sym e
+differ-none (suc x) zero p q e = e
+differ-none (suc x) (suc y) p q e = ap suc (differ-none x y (omega arith) (omega arith) e)
+
+differ-one : (x y : ℕ) → x < 2 → y < 2 → (y ≡ 1 → x ≡ 1) → differ x y ≡ 1 → (x ≡ 1) × (y ≡ 0)
+differ-one zero y p q f e = absurd (omega (arith, f e))
+differ-one (suc x) zero p q f e = (e, refl)
+differ-one (suc x) (suc y) p q f e = absurd (omega (arith, sym (ap₂ differ (lt-one {n = x} (omega arith)) (lt-one {n = y} (omega arith))) ∙ e))
+
+module _ (W a b : ℕ) (p : a < 2 ^ W) (q : b < 2 ^ W) (within : (i : ℕ) → bit b i ≡ 1 → bit a i ≡ 1) (other : a ≡ b → ⊥) where
+  pub beyond-lt : trailingZeros W (bitXor a b) < W
+  beyond-lt = go (decLt (trailingZeros W (bitXor a b)) W)
+    where
+      go : Dec (trailingZeros W (bitXor a b) < W) → trailingZeros W (bitXor a b) < W
+      go (yes y) = y
+      go (no n) =
+          absurd (other (bit-ext W a b p q (λ i l.
+          differ-none (bit a i) (bit b i) (bit-lt a i) (bit-lt b i) (sym (bit-xor a b i) ∙ low-below W (bitXor a b) i (omega arith)))))
+
+  pub beyond-in : (bit a (trailingZeros W (bitXor a b)) ≡ 1) × (bit b (trailingZeros W (bitXor a b)) ≡ 0)
+  beyond-in =
+      let i = trailingZeros W (bitXor a b) in
+      differ-one (bit a i) (bit b i) (bit-lt a i) (bit-lt b i) (within i) (sym (bit-xor a b i) ∙ low-in W (bitXor a b) beyond-lt)
+
 -- how many are in a set: the machine's count is the number of members below the width
 size-suc : (k x : ℕ) → size (suc k) x ≡ x % 2 + size k (x / 2)
 unfolding size
@@ -62,6 +98,26 @@ pub ones-size : (k x : ℕ) → x < 2 ^ k → ones x ≡ size k x
 unfolding size ones
 ones-size zero x h = ap ones (lt-one h)
 ones-size (suc k) x h = ones-step x ∙ ap (λ (n : ℕ). x % 2 + n) (ones-size k (x / 2) (omega arith)) ∙ sym (size-suc k x)
+
+-- one more that was not in it
+pub size-few : (k x : ℕ) → size k x ≤ k
+unfolding size
+size-few zero x = zero-le
+size-few (suc k) x = omega (arith, size-few k x, bit-lt x k)
+
+size-past : (k x i : ℕ) → k ≤ i → size k (put x i) ≡ size k x
+unfolding size
+size-past zero x i l = refl
+size-past (suc k) x i l = omega (arith, size-past k x i (omega arith), put-other x i k (λ e. omega arith))
+
+pub size-put : (k x i : ℕ) → i < k → bit x i ≡ 0 → size k (put x i) ≡ size k x + 1
+unfolding size
+size-put zero x i l e = absurd (omega arith)
+size-put (suc k) x i l e = go (λ l′. size-put k x i l′ e) (ℕ-discrete k i)
+  where
+    go : (i < k → size k (put x i) ≡ size k x + 1) → Dec (k ≡ i) → size k (put x i) + bit (put x i) k ≡ size k x + bit x k + 1
+    go ih (yes q) = rw q (omega (arith, size-past i x i (le-refl i), put-same x i, e))
+    go ih (no n) = omega (arith, ih (omega arith), put-other x i k n)
 
 -- a set within another has no more members, and is the other where it has as many
 module _ (a b : ℕ) (within : (i : ℕ) → bit a i ≡ 1 → bit b i ≡ 1) where
