@@ -23,4 +23,5 @@ pub mod Arrays
 pub mod Apart
 pub mod Opened
 pub mod Demand
+pub mod Withdrawn
 pub mod Cards

@@ -6,6 +6,7 @@ pub mod Judgement
 pub mod Cuts
 pub mod Meaning
 pub mod Answers
+pub mod Withdrawn
 pub mod Arrays
 pub mod Inside
 pub mod Holding
