@@ -24,4 +24,6 @@ pub mod Apart
 pub mod Opened
 pub mod Demand
 pub mod Withdrawn
+pub mod Booked
+pub mod Answered
 pub mod Cards

@@ -59,7 +59,7 @@ none-less {part} {booked} f (x ∷ xs) e =
     let b = and-inv {a = not (booked x)} e in
     and-both (not-less (part x) (booked x) (f x) (b .0)) (none-less f xs (b .1))
 
-also-less : {part booked : ℕ → Bool} (loss : ℕ → Bool) → PartOf part booked → PartOf (also part loss) (also booked loss)
+pub also-less : {part booked : ℕ → Bool} (loss : ℕ → Bool) → PartOf part booked → PartOf (also part loss) (also booked loss)
 also-less {part} {booked} loss f x = go (part x) (booked x) (loss x) (f x)
   where
     go : (p b l : Bool) → (p ≡ true → b ≡ true) → (p || l) ≡ true → (b || l) ≡ true

@@ -5,8 +5,8 @@ pub mod Network
 pub mod Judgement
 pub mod Cuts
 pub mod Meaning
-pub mod Answers
 pub mod Withdrawn
+pub mod Answers
 pub mod Arrays
 pub mod Inside
 pub mod Holding
