@@ -56,11 +56,11 @@ module _ (low high x : ℕ) (few : x < 128) (one : (y : ℕ) → inWords low hig
       go false e (no k) = absurd (false≢true (sym (beyond-none (inWords low high) n e x (omega (arith, k)) few) ∙ one x ∙ eq-eqb x x refl))
 
   pub ask-set-one : (g : Reading) → askedSetOf g low high ≡ askedOf g x
-  ask-set-one (good m) = rw (beyond-one (length (m .spans)), side-one m) (turned (ltb x (length (m .spans))))
+  ask-set-one (good m) = rw (beyond-one (length (m .spans)), side-one m) (turned (ltb x (length (m .spans))) (Refused 13 0) (Told (side m (without m x)) (whole m (without m x))))
     where
-      turned : (t : Bool) {a b : Asked} → cond (not t) a b ≡ cond t b a
-      turned true = refl
-      turned false = refl
+      turned : (t : Bool) (a b : Asked) → cond (not t) a b ≡ cond t b a
+      turned true a b = refl
+      turned false a b = refl
   ask-set-one (refused k p) = refl
 
 one-bit : (x y : ℕ) → has (2 ^ x) y ≡ eqb x y
@@ -130,3 +130,32 @@ module _ (m : RouteBook) (fits : wellFormed m ≡ true) (low high : ℕ) where
       let up = upWith m (inWords low high) in
       let w = whole-joined m fits up .1 all in
       rw (b, w, eqb-true (side m up) (stations m) w)
+
+module _ (m : RouteBook) (fits : wellFormed m ≡ true) (low high low′ high′ : ℕ) (f : PartOf (inWords low′ high′) (inWords low high)) where
+  part-within : (n : ℕ) → beyond (inWords low high) n ≡ false → beyond (inWords low′ high′) n ≡ false
+  part-within n e = none-beyond (inWords low′ high′) n (λ x a b. go x (inWords low′ high′ x) refl (beyond-none (inWords low high) n e x a b))
+    where
+      go : (x : ℕ) (t : Bool) → inWords low′ high′ x ≡ t → inWords low high x ≡ false → t ≡ false
+      go x true h z = absurd (false≢true (sym z ∙ f x h))
+      go x false h z = refl
+
+  part-told : {d : ℕ} → askedSetOf (good m) low high ≡ Told d true → askedSetOf (good m) low′ high′ ≡ Told d true
+  part-told e =
+      let j = told-joined m fits low high e in
+      joined-told m fits low′ high′ (part-within (length (m .spans)) (j .0)) (withdrawn-joined m f (j .1)) ∙ ap (λ (d : ℕ). Told d true) (sym (j .2))
+
+-- THE LAWS (a) and (b) of the answers: r and r′ are what `ask_set` answers of the same bytes and the same choice
+module _ (s : List ℕ) (n : ℕ) (h : Bytes s) (low high low′ high′ : ℕ) (f : PartOf (inWords low′ high′) (inWords low high)) (r r′ : Asked) where
+  pub withdrawn-answer : r ≡ askedSetOf (chosenOf (reading s) n) low high → r′ ≡ askedSetOf (chosenOf (reading s) n) low′ high′ → {d : ℕ} → r ≡ Told d true → r′ ≡ Told d true
+  withdrawn-answer met met′ {d} e = met′ ∙ go (chosenOf (reading s) n) refl (sym met ∙ e)
+    where
+      go : (g : Reading) → chosenOf (reading s) n ≡ g → askedSetOf g low high ≡ Told d true → askedSetOf g low′ high′ ≡ Told d true
+      go (good m) q w = part-told m (fits-all s n h m q) low high low′ high′ f w
+      go (refused k p) q w = absurd (false≢true (ap (λ (a : Asked). askedNumbers a .all) w))
+
+module _ (s : List ℕ) (n : ℕ) (h : Bytes s) (low high low′ high′ : ℕ) (f : PartOf (inWords low′ high′) (inWords low high)) (l k : ℕ) (r r′ : Asked) where
+  pub withdrawn-loss-answer : r ≡ askedSetOf (chosenOf (reading s) n) (bitOr low l) (bitOr high k) → r′ ≡ askedSetOf (chosenOf (reading s) n) (bitOr low′ l) (bitOr high′ k)
+      → {d : ℕ} → r ≡ Told d true → r′ ≡ Told d true
+  withdrawn-loss-answer =
+      withdrawn-answer s n h (bitOr low l) (bitOr high k) (bitOr low′ l) (bitOr high′ k)
+      (λ x e. words-also low high l k x ∙ also-less (inWords l k) f x (sym (words-also low′ high′ l k x) ∙ e)) r r′
