@@ -6,7 +6,6 @@ use mathlib.Core.List.{List, [], _∷_}
 use mathlib.Core.Logic.{_↔_}
 use mathlib.Core.Bool.{Bool, true, false, not, _||_, false≢true}
 use native.Mathlib.Decide.{decLt, ℕ-discrete}
-use native.Mathlib.Nat.{le-refl}
 use native.Mathlib.Omega.{arith}
 use lib.Dec.{eqb, ltb}
 use lib.ListN.{length, getD}
@@ -14,7 +13,7 @@ use lib.Bits.{bitAnd, bitOr}
 use lib.Pow.{pow-mono}
 use borrow.Author.Tests.{eq-eqb, ne-eqb, lt-ltb, le-ltb, eqb-true, not-true}
 use Rattle.book.specs.declared.Book.{Book}
-use Rattle.book.specs.Bits.{bit, has}
+use Rattle.book.specs.Bits.{has}
 use Rattle.book.specs.Book.{RouteBook, among}
 use Rattle.book.specs.Choice.{lightpathAt}
 use Rattle.book.specs.Memory.{bookOf}
@@ -55,7 +54,9 @@ none-in booked (x ∷ xs) f =
 pub in-none : (booked : ℕ → Bool) (xs : List ℕ) → noneOf booked xs ≡ true → (x : ℕ) → among x xs ≡ true → booked x ≡ false
 unfolding noneOf
 in-none booked [] e x h = absurd (false≢true h)
-in-none booked (y ∷ ys) e x h = let p = and-inv {a = not (booked y)} e in go (not-true (booked y) (p .0)) (in-none booked ys (p .1) x) (eqb x y) refl h
+in-none booked (y ∷ ys) e x h =
+    let p = and-inv {a = not (booked y)} e in
+    go (not-true (booked y) (p .0)) (in-none booked ys (p .1) x) (eqb x y) refl h
   where
     go : booked y ≡ false → (among x ys ≡ true → booked x ≡ false) → (t : Bool) → eqb x y ≡ t → (t || among x ys) ≡ true → booked x ≡ false
     go p rest true q w = ap booked (eqb-true x y q) ∙ p
@@ -67,6 +68,9 @@ module _ (low high : ℕ) where
 
   pub in-high : (x : ℕ) → 64 ≤ x → inWords low high x ≡ has high (x - 64)
   in-high x l = rw (le-ltb x 64 l)
+
+  at-high : (i : ℕ) → has high i ≡ inWords low high (64 + i)
+  at-high i = let y : i ≡ 64 + i - 64 = omega arith in ap (has high) y ∙ sym (in-high (64 + i) (omega arith))
 
 module _ {low high : ℕ} (p : low < 2 ^ 64) (q : high < 2 ^ 64) where
   -- two words hold no number from 128 on
@@ -114,17 +118,15 @@ module _ {low high : ℕ} (p : low < 2 ^ 64) (q : high < 2 ^ 64) where
       low-all : ((x : ℕ) → n ≤ x → x < n + (128 - n) → inWords low high x ≡ false) → Dec (n < 64) → low < 2 ^ n
       low-all f (yes l) =
           let z : 64 ≡ n + (64 - n) = omega (arith, l) in
-          bits-below n (64 - n) low (subst (λ (k : ℕ). low < 2 ^ k) z p) (λ i a b. lacks-bit low i (sym (in-low low high i (omega (arith, b, l))) ∙ f i a (omega (arith, b, l))))
+          bits-below n (64 - n) low (subst (λ (k : ℕ). low < 2 ^ k) z p)
+          (λ i a b. lacks-bit low i (sym (in-low low high i (omega (arith, b, l))) ∙ f i a (omega (arith, b, l))))
       low-all f (no k) = omega (arith, p, pow-mono {i = 64} {j = n} (omega (arith, k)))
 
       high-all : ((x : ℕ) → n ≤ x → x < n + (128 - n) → inWords low high x ≡ false) → high < 2 ^ rest
       high-all f =
           let z : 64 ≡ rest + (64 - rest) = omega (arith, few) in
           bits-below rest (64 - rest) high (subst (λ (k : ℕ). high < 2 ^ k) z q)
-          (λ i a b. lacks-bit high i (back i ∙ f (64 + i) (omega (arith, a)) (omega (arith, b, few))))
-        where
-          back : (i : ℕ) → has high i ≡ inWords low high (64 + i)
-          back i = let y : i ≡ 64 + i - 64 = omega arith in ap (has high) y ∙ sym (in-high low high (64 + i) (omega arith))
+          (λ i a b. lacks-bit high i (at-high low high i ∙ f (64 + i) (omega (arith, a)) (omega (arith, b, few))))
 
       go : {r : Bool} → First (inWords low high) (λ x. true) false (128 - n) n r → (not (ltb low (2 ^ n)) || not (ltb high (2 ^ rest))) ≡ r
       go (there x a b h less) = held x a h (decLt x 64)
@@ -151,7 +153,9 @@ module _ {low high : ℕ} (p : low < 2 ^ 64) (q : high < 2 ^ 64) where
     clear-none e x h = go (decLt x 64) (decLt x 128)
       where
         go : Dec (x < 64) → Dec (x < 128) → inWords low high x ≡ false
-        go (yes b) _ = in-low low high x b ∙ has-false low x (none-shared lows low (neither (bitAnd lows low) (bitAnd highs high) e .0) x (true-has lows x (low-rides x b ∙ h)))
+        go (yes b) _ =
+            in-low low high x b
+            ∙ has-false low x (none-shared lows low (neither (bitAnd lows low) (bitAnd highs high) e .0) x (true-has lows x (low-rides x b ∙ h)))
         go (no b) (yes c) =
             let y : 64 + (x - 64) ≡ x = omega (arith, b) in
             in-high low high x (omega (arith, b))
@@ -162,18 +166,16 @@ module _ {low high : ℕ} (p : low < 2 ^ 64) (q : high < 2 ^ 64) where
     none-clear : noneOf (inWords low high) route ≡ true → bitOr (bitAnd lows low) (bitAnd highs high) ≡ 0
     none-clear e = or-none (bitAnd lows low) (bitAnd highs high)
         (shared-none 64 lows low p (λ i b h. lacks-bit low i (sym (in-low low high i b) ∙ out i (sym (low-rides i b) ∙ has-true lows i h))))
-        (shared-none 64 highs high q (λ i b h. lacks-bit high i (back i ∙ out (64 + i) (sym (high-rides i b) ∙ has-true highs i h))))
+        (shared-none 64 highs high q (λ i b h. lacks-bit high i (at-high low high i ∙ out (64 + i) (sym (high-rides i b) ∙ has-true highs i h))))
       where
         out : (x : ℕ) → among x route ≡ true → inWords low high x ≡ false
         out = in-none (inWords low high) route e
 
-        back : (i : ℕ) → has high i ≡ inWords low high (64 + i)
-        back i = let y : i ≡ 64 + i - 64 = omega arith in ap (has high) y ∙ sym (in-high low high (64 + i) (omega arith))
-
     pub clear-up : clear (bookOf m .low) (bookOf m .high) low high k ≡ upWith m (inWords low high) k
     clear-up = go (ℕ-discrete (bitOr (bitAnd lows low) (bitAnd highs high)) 0) (noneOf (inWords low high) route) refl
       where
-        go : Dec (bitOr (bitAnd lows low) (bitAnd highs high) ≡ 0) → (t : Bool) → noneOf (inWords low high) route ≡ t → eqb (bitOr (bitAnd lows low) (bitAnd highs high)) 0 ≡ t
+        go : Dec (bitOr (bitAnd lows low) (bitAnd highs high) ≡ 0) → (t : Bool) → noneOf (inWords low high) route ≡ t
+            → eqb (bitOr (bitAnd lows low) (bitAnd highs high)) 0 ≡ t
         go (yes e) true w = eq-eqb (bitOr (bitAnd lows low) (bitAnd highs high)) 0 e
         go (yes e) false w = absurd (false≢true (sym w ∙ none-in (inWords low high) route (clear-none e)))
         go (no n) true w = absurd (n (none-clear w))

@@ -2,7 +2,7 @@
 -- All of it is over the width, so that a side of one word and one of several rest on the same laws.
 use Prim.Native.Nat.{ℕ, zero, suc, _+_, _*_, _/_, _%_, _^_, _<_, _≤_, min, zero-le}
 use mathlib.Core.Path.{_≡_, refl, sym, ap, ap₂, _∙_, subst}
-use mathlib.Core.Bool.{Bool, false, _||_, false≢true}
+use mathlib.Core.Bool.{false, _||_, false≢true}
 use native.Mathlib.Nat.{le-refl, div-lt-iff-lt-mul}
 use native.Mathlib.Decide.{decLt, ℕ-discrete}
 use native.Mathlib.Omega.{arith}

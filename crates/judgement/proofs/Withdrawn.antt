@@ -1,6 +1,6 @@
 -- A BOOKING WITHDRAWN: a chain of lightpaths that are up is still one when more are up, so whatever a state joins a state with no less up joins too.
 -- Fewer spans open, or one lightpath more, leave no less up; more lightpaths on a span leave no more up without it.
-use Prim.Native.Nat.{ℕ, zero, suc, _<_, _≤_}
+use Prim.Native.Nat.{ℕ, zero, suc, _<_}
 use mathlib.Core.Path.{_≡_, refl, sym, ap, _∙_, subst}
 use mathlib.Core.List.{List, [], _∷_, _++_, map}
 use mathlib.Core.Logic.{_⊎_, inl, inr}

@@ -64,7 +64,13 @@ fn beyond(low: u64, high: u64, n: u8) -> bool
 }
 
 // Which of the first n lightpaths are up with a set of spans out: those whose words share no bit with it.
-fn up_with<'a>(lows: &'a [u64; 152], highs: &'a [u64; 152], low: u64, high: u64, n: usize) -> [bool; 96]
+fn up_with<'a>(
+    lows: &'a [u64; 152],
+    highs: &'a [u64; 152],
+    low: u64,
+    high: u64,
+    n: usize,
+) -> [bool; 96]
     requires { ⌜ (length (now lows) ≡ 152) × (length (now highs) ≡ 152) × (n ≤ 96) ⌝ }
     ensures { λ r. ⌜ r ≡ upTable (clear (now (lows .entry)) (now (highs .entry)) low high) n ⌝ }
 {

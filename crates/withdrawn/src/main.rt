@@ -205,7 +205,15 @@ fn with_all(s: &[u8], n: u8) -> Tallies {
         third: 0,
         last: 0,
     };
-    let mut t = with_booking(s, n, b, Tallies { sets: none, losses: none });
+    let mut t = with_booking(
+        s,
+        n,
+        b,
+        Tallies {
+            sets: none,
+            losses: none,
+        },
+    );
     for i in 0..n {
         t = with_one(s, n, i, t);
     }

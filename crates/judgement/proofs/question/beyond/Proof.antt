@@ -1,5 +1,4 @@
 -- Each word is tested at its own place: the first at n, and the second at what n has above 64. The law is `beyond-words`.
-use mathlib.Core.Path.{_≡_}
 use borrow.Author.Needs.{needs}
 use Rattle.judgement.proofs.Booked.{beyond-words}
 use Rattle.judgement.proofs.question.beyond.Statement.{statement}

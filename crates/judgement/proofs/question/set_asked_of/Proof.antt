@@ -1,7 +1,6 @@
 -- The set is tested against the count of spans, which the struct has; then the side is the book's, and so is the set of stations.
 -- The side holds stations only, so it holds all of them where it holds as many.
 use mathlib.Core.Path.{_≡_, sym, ap, _∙_}
-use lib.ListN.{length}
 use borrow.Author.Needs.{needs}
 use Rattle.book.specs.declared.Book.{Book}
 use Rattle.judgement.specs.Judgement.{stations}

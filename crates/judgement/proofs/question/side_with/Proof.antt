@@ -33,8 +33,10 @@ returns : tie.Need-returns
 returns c =
     let s = c .before .before .before .before .before .before .before .before .before in
     let b = s .before .args .t1 in
-    rw (c .side-of .ensures) (table-side (clear (b .low) (b .high) (s .before .args .low) (s .before .args .high)) (b .lightpaths) (b .from) (b .to) (usable-lightpaths (s .before .pre)) (c .before .before .before .before .before .up-with .ensures) 64 _
-    ∙ ap (sideOf (netOf (b .lightpaths) (b .from) (b .to)) (clear (b .low) (b .high) (s .before .args .low) (s .before .args .high)) 64) (s .lowest .ensures))
+    let up = clear (b .low) (b .high) (s .before .args .low) (s .before .args .high) in
+    rw (c .side-of .ensures)
+    (table-side up (b .lightpaths) (b .from) (b .to) (usable-lightpaths (s .before .pre)) (c .before .before .before .before .before .up-with .ensures) 64 _
+    ∙ ap (sideOf (netOf (b .lightpaths) (b .from) (b .to)) up 64) (s .lowest .ensures))
 
 pub side-with-spec : {M : Type 1} → statement M
 side-with-spec = tie.close (tie.spec lowest-requires cast-n up-with-requires side-of-requires returns)
