@@ -56,7 +56,9 @@ module _ (low high x : ℕ) (few : x < 128) (one : (y : ℕ) → inWords low hig
       go false e (no k) = absurd (false≢true (sym (beyond-none (inWords low high) n e x (omega (arith, k)) few) ∙ one x ∙ eq-eqb x x refl))
 
   pub ask-set-one : (g : Reading) → askedSetOf g low high ≡ askedOf g x
-  ask-set-one (good m) = rw (beyond-one (length (m .spans)), side-one m) (turned (ltb x (length (m .spans))) (Refused 13 0) (Told (side m (without m x)) (whole m (without m x))))
+  ask-set-one (good m) =
+      rw (beyond-one (length (m .spans)), side-one m)
+      (turned (ltb x (length (m .spans))) (Refused 13 0) (Told (side m (without m x)) (whole m (without m x))))
     where
       turned : (t : Bool) (a b : Asked) → cond (not t) a b ≡ cond t b a
       turned true a b = refl
@@ -125,7 +127,8 @@ module _ (m : RouteBook) (fits : wellFormed m ≡ true) (low high : ℕ) where
           let all = ap (λ (r : Asked). askedNumbers r .all) w in
           (b, whole-joined m fits up .0 all, sym (ap (λ (r : Asked). askedNumbers r .side) w) ∙ eqb-true (side m up) (stations m) all)
 
-  pub joined-told : beyond (inWords low high) (length (m .spans)) ≡ false → AllJoined m (upWith m (inWords low high)) → askedSetOf (good m) low high ≡ Told (stations m) true
+  pub joined-told : beyond (inWords low high) (length (m .spans)) ≡ false → AllJoined m (upWith m (inWords low high))
+      → askedSetOf (good m) low high ≡ Told (stations m) true
   joined-told b all =
       let up = upWith m (inWords low high) in
       let w = whole-joined m fits up .1 all in
@@ -146,7 +149,8 @@ module _ (m : RouteBook) (fits : wellFormed m ≡ true) (low high low′ high′
 
 -- THE LAWS (a) and (b) of the answers: r and r′ are what `ask_set` answers of the same bytes and the same choice
 module _ (s : List ℕ) (n : ℕ) (h : Bytes s) (low high low′ high′ : ℕ) (f : PartOf (inWords low′ high′) (inWords low high)) (r r′ : Asked) where
-  pub withdrawn-answer : r ≡ askedSetOf (chosenOf (reading s) n) low high → r′ ≡ askedSetOf (chosenOf (reading s) n) low′ high′ → {d : ℕ} → r ≡ Told d true → r′ ≡ Told d true
+  pub withdrawn-answer : r ≡ askedSetOf (chosenOf (reading s) n) low high → r′ ≡ askedSetOf (chosenOf (reading s) n) low′ high′
+      → {d : ℕ} → r ≡ Told d true → r′ ≡ Told d true
   withdrawn-answer met met′ {d} e = met′ ∙ go (chosenOf (reading s) n) refl (sym met ∙ e)
     where
       go : (g : Reading) → chosenOf (reading s) n ≡ g → askedSetOf g low high ≡ Told d true → askedSetOf g low′ high′ ≡ Told d true
@@ -154,7 +158,8 @@ module _ (s : List ℕ) (n : ℕ) (h : Bytes s) (low high low′ high′ : ℕ) 
       go (refused k p) q w = absurd (false≢true (ap (λ (a : Asked). askedNumbers a .all) w))
 
 module _ (s : List ℕ) (n : ℕ) (h : Bytes s) (low high low′ high′ : ℕ) (f : PartOf (inWords low′ high′) (inWords low high)) (l k : ℕ) (r r′ : Asked) where
-  pub withdrawn-loss-answer : r ≡ askedSetOf (chosenOf (reading s) n) (bitOr low l) (bitOr high k) → r′ ≡ askedSetOf (chosenOf (reading s) n) (bitOr low′ l) (bitOr high′ k)
+  pub withdrawn-loss-answer : r ≡ askedSetOf (chosenOf (reading s) n) (bitOr low l) (bitOr high k)
+      → r′ ≡ askedSetOf (chosenOf (reading s) n) (bitOr low′ l) (bitOr high′ k)
       → {d : ℕ} → r ≡ Told d true → r′ ≡ Told d true
   withdrawn-loss-answer =
       withdrawn-answer s n h (bitOr low l) (bitOr high k) (bitOr low′ l) (bitOr high′ k)

@@ -78,7 +78,7 @@ pub asks : (askedOf (chosenOf (reading E) 0) 0 ≡ asked.Told 15 true) × (asked
 unfolding reading book each opened below some count different walks lengthFits spanEnds lightpathEnds follows bit has put stationsInto padded movableFrom product digits digitFor alternativesOf rerouted brought grown swept settled sideOf sum firstOf trailingZeros
 asks = (refl, refl, refl, refl, refl)
 
--- the question about sets: none, spans 0 and 3, spans 0 and 1 of choice 1; a number that no span has, in the first word and in the second; and refusals in their order
+-- the question about sets in choice 1: no span, spans 0 and 3, spans 0 and 1; a number that no span has, in the first word and in the second; and no such choice
 pub sets : (askedSetOf (chosenOf (reading E) 1) 0 0 ≡ asked.Told 15 true) × (askedSetOf (chosenOf (reading E) 1) 9 0 ≡ asked.Told 1 false)
     × (askedSetOf (chosenOf (reading E) 1) 3 0 ≡ asked.Told 13 false) × (askedSetOf (chosenOf (reading E) 1) 33 0 ≡ asked.Refused 13 0)
     × (askedSetOf (chosenOf (reading E) 1) 0 1 ≡ asked.Refused 13 0) × (askedSetOf (chosenOf (reading E) 2) 0 1 ≡ asked.Refused 12 0)

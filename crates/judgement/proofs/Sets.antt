@@ -157,7 +157,9 @@ pub none-shared : (a b : ℕ) → bitAnd a b ≡ 0 → (i : ℕ) → bit a i ≡
 none-shared a b e i h = omega (arith, bit-and a b i, ap (λ (x : ℕ). bit x i) e, bit-of-zero i, h, bit-lt b i)
 
 pub shared-none : (W a b : ℕ) → b < 2 ^ W → ((i : ℕ) → i < W → bit a i ≡ 1 → bit b i ≡ 0) → bitAnd a b ≡ 0
-shared-none W a b q f = bit-ext W (bitAnd a b) 0 (omega (arith, and-le-r a b)) (pow-pos W) (λ i l. bit-and a b i ∙ go i l (ℕ-discrete (bit a i) 1) ∙ sym (bit-of-zero i))
+shared-none W a b q f =
+    bit-ext W (bitAnd a b) 0 (omega (arith, and-le-r a b)) (pow-pos W)
+    (λ i l. bit-and a b i ∙ go i l (ℕ-discrete (bit a i) 1) ∙ sym (bit-of-zero i))
   where
     go : (i : ℕ) → i < W → Dec (bit a i ≡ 1) → min (bit a i) (bit b i) ≡ 0
     go i l (yes h) = omega (arith, f i l h, h)

@@ -1,4 +1,5 @@
--- The array holds, for every lightpath that there is, whether its words share no bit with the set. So the side by the array is the side by that test: `table-side`.
+-- The array holds, for every lightpath that there is, whether its words share no bit with the set. So the side by the array is the side by that test:
+-- `table-side`.
 use mathlib.Core.Path.{_≡_, ap, _∙_}
 use native.Mathlib.Omega.{arith}
 use lib.ListN.{length}
