@@ -19,7 +19,7 @@ use Rattle.judgement.specs.Judgement.{network, load, limit, stations, lo
 use Rattle.judgement.specs.Pieces.{over, labels, HoldTogether}
 use Rattle.judgement.specs.Ways.{Way, here, hop}
 use Rattle.judgement.specs.Contraction.{touches, ringOf, lowestLabel, merged, mergesIn, mergeCount}
-use Rattle.judgement.proofs.Sets.{set-same, size-less, size-most, size-some}
+use Rattle.judgement.proofs.Sets.{set-same, size-less, size-few, size-some}
 use Rattle.judgement.proofs.Stations.{lowest-lt, lowest-has}
 use Rattle.judgement.proofs.First.{First, there, nowhere, first}
 use Rattle.judgement.proofs.Labels.{labels-in, labels-of, labels-lt}
@@ -136,4 +136,4 @@ module _ (m : RouteBook) (good : wellFormed m ≡ true) where
     where
       go : {c : ℕ} → First (λ x. ltb (limit m x) (load m x)) (λ x. 0) (mergesIn m (64 * 64) (λ i. i)) (length (m .spans)) 0 c → c ≤ 63
       go (there x a b e below) = omega arith
-      go (nowhere none) = omega (arith, merges-few, size-most 64 (stations m))
+      go (nowhere none) = omega (arith, merges-few, size-few 64 (stations m))

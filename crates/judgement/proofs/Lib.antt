@@ -24,6 +24,9 @@ pub mod Arrays
 pub mod Apart
 pub mod Opened
 pub mod Demand
+pub mod Withdrawn
+pub mod Booked
+pub mod Answered
 pub mod Labels
 pub mod Pieces
 pub mod Lowest

@@ -14,7 +14,7 @@ use Rattle.book.proofs.Bits.{has-true, put-lt}
 use Rattle.judgement.specs.Network.{Network}
 use Rattle.judgement.specs.Inside.{size}
 use Rattle.judgement.specs.Ways.{Before, Way, here, hop, widen, near, way}
-use Rattle.judgement.proofs.Sets.{size-le, size-same, size-most, size-some}
+use Rattle.judgement.proofs.Sets.{size-le, size-same, size-few, size-some}
 use Rattle.judgement.proofs.FirstWays.{near-kept, near-start, near-step, stepOf, stepTo, way-is, way-before}
 
 -- what holds of round d and is handed on holds of every later round
@@ -95,7 +95,7 @@ module _ (net : Network) (free : ℕ → Bool) (y : ℕ) where
     near-all {x} w = turn (grows W)
       where
         turn : (W < many W) ⊎ Stops W → bit (near net free y W) x ≡ 1
-        turn (inl l) = absurd (omega (arith, size-most W (near net free y W)))
+        turn (inl l) = absurd (omega (arith, size-few W (near net free y W)))
         turn (inr v) = met (v .0) x (stuck (v .0) (v .2) w) W (v .1) .0
 
     -- THE LAW of the way: where there is one at all, the way that W rounds find is one, and comes before every other

@@ -1,16 +1,20 @@
 -- Sets of numbers below a width, as numbers: the lowest member, and how many there are, so that a set within another that has as many is the other.
 -- All of it is over the width, so that a side of one word and one of several rest on the same laws.
-use Prim.Native.Nat.{ℕ, zero, suc, _+_, _/_, _%_, _^_, _<_, _≤_, min, zero-le}
-use mathlib.Core.Path.{_≡_, refl, sym, ap, ap₂, _∙_}
+use Prim.Native.Nat.{ℕ, zero, suc, _+_, _*_, _/_, _%_, _^_, _<_, _≤_, min, zero-le}
+use mathlib.Core.Path.{_≡_, refl, sym, ap, ap₂, _∙_, subst}
 use mathlib.Core.Logic.{_↔_}
-use native.Mathlib.Nat.{le-refl}
+use mathlib.Core.Bool.{false, _||_, false≢true}
+use native.Mathlib.Nat.{le-refl, div-lt-iff-lt-mul}
 use native.Mathlib.Decide.{decLt, ℕ-discrete}
 use native.Mathlib.Omega.{arith}
 use lib.Arith.{lt-one, digits-mod}
-use lib.Bits.{bitAnd, bitXor, differ, and-shr, and-step, xor-shr, xor-step}
+use lib.Pow.{pow-pos, shr-lt}
+use lib.Dec.{eqb, ltb}
+use lib.Bits.{bitAnd, bitOr, bitXor, differ, and-shr, and-step, and-le-l, and-le-r, or-add-and, xor-shr, xor-step}
 use lib.Count.{trailingZeros, under, ones, ones-step}
-use Rattle.book.specs.Bits.{bit, put}
-use Rattle.book.proofs.Bits.{bit-lt, bit-zero, bit-suc, bit-of-zero, bit-iff, bit-ext, put-same, put-other}
+use borrow.Author.Tests.{eq-eqb, ne-eqb, lt-ltb, le-ltb}
+use Rattle.book.specs.Bits.{bit, has, put}
+use Rattle.book.proofs.Bits.{bit-lt, bit-zero, bit-suc, bit-of-zero, bit-or, bit-iff, bit-ext, has-true, has-false, put-same, put-other}
 use Rattle.judgement.specs.Inside.{size}
 
 -- two sets below the width with the same members are equal
@@ -143,11 +147,70 @@ module _ (a b : ℕ) (within : (i : ℕ) → bit a i ≡ 1 → bit b i ≡ 1) wh
   pub size-less : (k i : ℕ) → i < k → bit a i ≡ 0 → bit b i ≡ 1 → size k a < size k b
   size-less k i l p q = elim (decLt (size k a) (size k b)) [ yes y ↦ y | no n ↦ absurd (omega (arith, p, q, size-bits k (omega (arith, size-le k)) i l)) ]
 
--- a set has at most as many members as the width, and one at least where it holds a number
-pub size-most : (k x : ℕ) → size k x ≤ k
-unfolding size
-size-most zero x = zero-le
-size-most (suc k) x = omega (arith, size-most k x, bit-lt x k)
-
+-- a set has one member at least where it holds a number
 pub size-some : (k x i : ℕ) → i < k → bit x i ≡ 1 → 0 < size k x
 size-some k x i l e = omega (arith, size-less 0 x (λ j h. absurd (omega (arith, h, bit-of-zero j))) k i l (bit-of-zero i) e)
+
+-- what a test tells of a bit, and what is in either of two sets
+pub lacks-bit : (x i : ℕ) → has x i ≡ false → bit x i ≡ 0
+lacks-bit x i h = elim (ℕ-discrete (bit x i) 1) [ yes e ↦ absurd (false≢true (sym h ∙ has-true x i e)) | no n ↦ omega (arith, bit-lt x i, n) ]
+
+pub has-or : (a b i : ℕ) → has (bitOr a b) i ≡ (has a i || has b i)
+has-or a b i = go (ℕ-discrete (bit a i) 1) (ℕ-discrete (bit b i) 1)
+  where
+    go : Dec (bit a i ≡ 1) → Dec (bit b i ≡ 1) → has (bitOr a b) i ≡ (has a i || has b i)
+    go (yes p) _ = has-true (bitOr a b) i (bit-or a b i ∙ omega (arith, p, bit-lt b i)) ∙ rw (has-true a i p)
+    go (no p) (yes q) = has-true (bitOr a b) i (bit-or a b i ∙ omega (arith, q, bit-lt a i)) ∙ rw (has-false a i (omega (arith, p, bit-lt a i)), has-true b i q)
+    go (no p) (no q) =
+        let x : bit a i ≡ 0 = omega (arith, p, bit-lt a i) in
+        let y : bit b i ≡ 0 = omega (arith, q, bit-lt b i) in
+        has-false (bitOr a b) i (bit-or a b i ∙ omega (arith, x, y)) ∙ rw (has-false a i x, has-false b i y)
+
+-- what is in both of two sets: their and is 0 exactly if they share no number, and an or is 0 exactly if both sets are
+pub bit-and : (a b i : ℕ) → bit (bitAnd a b) i ≡ min (bit a i) (bit b i)
+unfolding bit
+bit-and a b i = rw (and-shr, and-step) (digits-mod _ (omega arith))
+
+pub none-shared : (a b : ℕ) → bitAnd a b ≡ 0 → (i : ℕ) → bit a i ≡ 1 → bit b i ≡ 0
+none-shared a b e i h = omega (arith, bit-and a b i, ap (λ (x : ℕ). bit x i) e, bit-of-zero i, h, bit-lt b i)
+
+pub shared-none : (W a b : ℕ) → b < 2 ^ W → ((i : ℕ) → i < W → bit a i ≡ 1 → bit b i ≡ 0) → bitAnd a b ≡ 0
+shared-none W a b q f =
+    bit-ext W (bitAnd a b) 0 (omega (arith, and-le-r a b)) (pow-pos W)
+    (λ i l. bit-and a b i ∙ go i l (ℕ-discrete (bit a i) 1) ∙ sym (bit-of-zero i))
+  where
+    go : (i : ℕ) → i < W → Dec (bit a i ≡ 1) → min (bit a i) (bit b i) ≡ 0
+    go i l (yes h) = omega (arith, f i l h, h)
+    go i l (no n) = omega (arith, n, bit-lt a i)
+
+pub neither : (a b : ℕ) → bitOr a b ≡ 0 → (a ≡ 0) × (b ≡ 0)
+neither a b e = (omega (arith, or-add-and a b, and-le-r a b), omega (arith, or-add-and a b, and-le-l a b))
+
+pub or-none : (a b : ℕ) → a ≡ 0 → b ≡ 0 → bitOr a b ≡ 0
+or-none a b p q = omega (arith, or-add-and a b)
+
+-- a set has no number from n on exactly if it is below 2 to the power n, which the machine tells by a shift
+none-left : (w n : ℕ) → w < 2 ^ n → w / 2 ^ n ≡ 0
+none-left w n l = lt-one (div-lt-iff-lt-mul (pow-pos n) .1 (omega (arith, l)))
+
+left-none : (w n : ℕ) → w / 2 ^ n ≡ 0 → w < 2 ^ n
+left-none w n e = let z : w < 1 * 2 ^ n = div-lt-iff-lt-mul (pow-pos n) .0 (omega (arith, e)) in omega (arith, z)
+
+pub shift-none : (w n : ℕ) → eqb (w / 2 ^ n) 0 ≡ ltb w (2 ^ n)
+shift-none w n = go (decLt w (2 ^ n))
+  where
+    go : Dec (w < 2 ^ n) → eqb (w / 2 ^ n) 0 ≡ ltb w (2 ^ n)
+    go (yes l) = eq-eqb (w / 2 ^ n) 0 (none-left w n l) ∙ sym (lt-ltb w (2 ^ n) l)
+    go (no k) = ne-eqb (w / 2 ^ n) 0 (λ e. k (left-none w n e)) ∙ sym (le-ltb w (2 ^ n) (omega (arith, k)))
+
+pub bit-le-set : (w i : ℕ) → bit w i ≡ 1 → 2 ^ i ≤ w
+unfolding bit
+bit-le-set w i e = elim (decLt w (2 ^ i)) [ yes l ↦ absurd (omega (arith, e, none-left w i l)) | no n ↦ omega (arith, n) ]
+
+pub bits-below : (n d w : ℕ) → w < 2 ^ (n + d) → ((i : ℕ) → n ≤ i → i < n + d → bit w i ≡ 0) → w < 2 ^ n
+unfolding bit
+bits-below n zero w l f = let z : n + 0 ≡ n = omega arith in subst (λ (k : ℕ). w < 2 ^ k) z l
+bits-below n (suc d) w l f =
+    let z : n + suc d ≡ 1 + (n + d) = omega arith in
+    let two : w / 2 ^ (n + d) < 2 = shr-lt 1 (n + d) (subst (λ (k : ℕ). w < 2 ^ k) z l) in
+    bits-below n d w (left-none w (n + d) (omega (arith, two, f (n + d) (omega arith) (omega arith)))) (λ i a b. f i a (omega (arith, b)))

@@ -4,7 +4,7 @@ use mathlib.Core.Path.{_≡_}
 use mathlib.Core.List.{List}
 use mathlib.Core.Logic.{_⊎_}
 use mathlib.Core.Bool.{Bool, false, cond, not, _&&_}
-use lib.Bits.{bitOr, bitXor}
+use lib.Bits.{bitAnd, bitOr, bitXor}
 use lib.Count.{trailingZeros}
 use lib.ListN.{length, getD, set, replicate}
 use Rattle.book.specs.Bits.{bit, has, put}
@@ -63,6 +63,10 @@ upTable t (suc n) = set (upTable t n) n (t n)
 -- whether word k, a set, has not the number i
 abbrev pub unset : List ℕ → ℕ → ℕ → Bool
 unset words i k = not (has (getD words k 0) i)
+
+-- whether words k, two sets, share no number with the sets low and high
+abbrev pub clear : List ℕ → List ℕ → ℕ → ℕ → ℕ → Bool
+clear lows highs low high k = eqb (bitOr (bitAnd (getD lows k 0) low) (bitAnd (getD highs k 0) high)) 0
 
 -- with bit i of the words out: the side of the station `start`, whether it lacks a station, and the answer that names the span
 abbrev pub sideIn : Book → ℕ → List ℕ → ℕ → ℕ
