@@ -10,8 +10,7 @@ use native.Mathlib.Decide.{ℕ-discrete, decLt}
 use native.Mathlib.Omega.{arith}
 use lib.Dec.{eqb, ltb}
 use lib.ListN.{length}
-use lib.Arith.{digits-mod}
-use lib.Bits.{bitAnd, and-shr, and-step}
+use lib.Bits.{bitAnd}
 use borrow.Author.Tests.{eqb-true, eq-eqb, lt-ltb, le-ltb}
 use Rattle.book.specs.Bits.{bit, has, put}
 use Rattle.book.specs.Book.{RouteBook, wellFormed}
@@ -220,10 +219,6 @@ module _ (net : Network) (free : ℕ → Bool) where
     pub ended : (d : ℕ) → widen net free (near net free y d) (net .count) ≡ near net free y d → (n : ℕ) → d ≤ n → near net free y n ≡ near net free y d
     unfolding near
     ended d e = later (λ n. near net free y n ≡ near net free y d) d refl (λ n r. ap (λ (o : ℕ). widen net free o (net .count)) r ∙ e)
-
-bit-and : (a b i : ℕ) → bit (bitAnd a b) i ≡ min (bit a i) (bit b i)
-unfolding bit
-bit-and a b i = rw (and-shr, and-step) (digits-mod _ (omega arith))
 
 -- `once` has what was counted at least once, and `twice` what was counted at least twice
 pub record Seen (c : ℕ → ℕ) (s : Carried) : Type 0 where

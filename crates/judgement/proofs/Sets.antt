@@ -167,10 +167,6 @@ has-or a b i = go (ℕ-discrete (bit a i) 1) (ℕ-discrete (bit b i) 1)
         has-false (bitOr a b) i (bit-or a b i ∙ omega (arith, x, y)) ∙ rw (has-false a i x, has-false b i y)
 
 -- what is in both of two sets: their and is 0 exactly if they share no number, and an or is 0 exactly if both sets are
-pub bit-and : (a b i : ℕ) → bit (bitAnd a b) i ≡ min (bit a i) (bit b i)
-unfolding bit
-bit-and a b i = rw (and-shr, and-step) (digits-mod _ (omega arith))
-
 pub none-shared : (a b : ℕ) → bitAnd a b ≡ 0 → (i : ℕ) → bit a i ≡ 1 → bit b i ≡ 0
 none-shared a b e i h = omega (arith, bit-and a b i, ap (λ (x : ℕ). bit x i) e, bit-of-zero i, h, bit-lt b i)
 
