@@ -2,9 +2,10 @@
 // every part of it, and about the same with every further span out. It prints
 //
 //     SPANS spans
-//     SETS sets JOINED joined PARTS parts SPOILED spoiled      how many sets there are, how many of them leave all stations joined, how many parts the sets
-//                                                              have, and how many parts of those that leave all joined do not
-//     LOSSES sets JOINED joined PARTS parts SPOILED spoiled    the same of the sets and their parts with a further span out, each of the spans in turn
+//     SETS sets JOINED joined PARTED parted PARTS parts SPOILED spoiled      how many sets there are, how many of them leave all stations joined, and how many
+//                                                                            do not; how many parts the sets have, and how many parts of those that leave all
+//                                                                            joined do not
+//     LOSSES sets JOINED joined PARTED parted PARTS parts SPOILED spoiled    the same of the sets and their parts with a further span out, each in turn
 //     END
 //
 // or `BAD number place` and `END` where the book is refused.
@@ -58,11 +59,12 @@ impl Booking {
     }
 }
 
-// How many sets were tried, how many of them leave all stations joined, how many parts these sets have, and how many parts of those that leave all joined
-// do not.
+// How many sets were tried, how many of them leave all stations joined and how many do not, how many parts these sets have, and how many parts of those that
+// leave all joined do not.
 struct Tally {
     pub sets: u64,
     pub joined: u64,
+    pub parted: u64,
     pub parts: u64,
     pub spoiled: u64,
 }
@@ -99,6 +101,7 @@ fn with_part(s: &[u8], b: Booking, i: u8, loss: Spans, whole: bool, t: Tally) ->
     Tally {
         sets: t.sets,
         joined: t.joined,
+        parted: t.parted,
         parts: counted(t.parts, true),
         spoiled: counted(t.spoiled, whole & !joined),
     }
@@ -120,6 +123,7 @@ fn with_set(s: &[u8], b: Booking, loss: Spans, before: Tally) -> Tally {
     Tally {
         sets: counted(t.sets, true),
         joined: counted(t.joined, whole),
+        parted: counted(t.parted, !whole),
         parts: t.parts,
         spoiled: t.spoiled,
     }
@@ -196,6 +200,7 @@ fn with_all(s: &[u8], n: u8) -> Tallies {
     let none = Tally {
         sets: 0,
         joined: 0,
+        parted: 0,
         parts: 0,
         spoiled: 0,
     };
@@ -231,6 +236,7 @@ fn print(word: &[u8], n: u64) {
 fn print_tally(t: Tally) {
     print(b"", t.sets);
     print(b" JOINED", t.joined);
+    print(b" PARTED", t.parted);
     print(b" PARTS", t.parts);
     print(b" SPOILED", t.spoiled);
     io::write_all(STDOUT_FILENO, b"\n");
