@@ -61,9 +61,9 @@ path t s = pair 1 0 (0x4c ∷ 0x50 ∷ 0 ∷ t ∷ s)
 
 pub every-row : (reading [] ≡ refused 1 0) × (reading (0x48 ∷ 0x44 ∷ []) ≡ refused 1 0) × (reading (path 1 (1 ∷ [])) ≡ refused 1 17) × (reading (0 ∷ 0 ∷ []) ≡ refused 2 0)
     × (reading (head 0 0 0 0 []) ≡ refused 3 0) × (reading (head 1 0 0 0 (node 2 [])) ≡ refused 4 6) × (reading (head 1 1 0 0 (node 1 (0x53 ∷ 0x50 ∷ 0 ∷ 0 ∷ 0 ∷ []))) ≡ refused 4 9)
-    × (reading (path 0 (0 ∷ [])) ≡ refused 4 17) × (reading (path 1 (1 ∷ 1 ∷ [])) ≡ refused 5 17) × (reading (path 1 (0 ∷ [])) ≡ refused 6 17) × (reading (path 1 (2 ∷ 0 ∷ 0 ∷ [])) ≡ refused 7 17)
+    × (reading (path 0 (0 ∷ [])) ≡ refused 4 17) × (reading (path 1 (1 ∷ 1 ∷ [])) ≡ refused 5 22) × (reading (path 1 (0 ∷ [])) ≡ refused 6 17) × (reading (path 1 (2 ∷ 0 ∷ 0 ∷ [])) ≡ refused 7 23)
     × (reading (pair 0 1 (0x41 ∷ 0x4c ∷ 0 ∷ 1 ∷ 0 ∷ [])) ≡ refused 8 17) × (reading (head 1 0 0 0 (node 1 (0x45 ∷ 0x4e ∷ 0 ∷ []))) ≡ refused 9 11) × (reading (head 1 0 0 0 (node 0 [])) ≡ refused 10 9)
-unfolding reading book each opened below some count different walks lengthFits spanEnds lightpathEnds follows
+unfolding reading book each opened below fromHigh fromStray some count different walks lengthFits spanEnds lightpathEnds follows
 every-row = (refl, refl, refl, refl, refl, refl, refl, refl, refl, refl, refl, refl, refl, refl)
 
 -- the choices of E: two, and choice 1 is written in 74 bytes; 73 are too few, and there is no choice 2

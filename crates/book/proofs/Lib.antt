@@ -5,6 +5,7 @@ pub mod Readers
 pub mod Records
 pub mod Format
 pub mod Stands
+pub mod Strays
 pub mod Refusals
 pub mod Longest
 pub mod Bits

@@ -7,8 +7,8 @@ use lib.ListN.{length, drop}
 use denote.Ref.{now}
 use Rattle.book.specs.Book.{below}
 use Rattle.book.proofs.Walking.{below-more, below-stop, below-none}
-use Rattle.book.proofs.walk.all_below.Statement.{statement}
-use Rattle.book.proofs.walk.all_below.Tie as tie
+use Rattle.book.proofs.walk.first_high.Statement.{statement}
+use Rattle.book.proofs.walk.first_high.Tie as tie
 
 abbrev Inv-loop : tie.InvT-loop
 Inv-loop route n j₀ j = (j ≤ length route) × (below n route ≡ below n (drop j route))
@@ -37,8 +37,8 @@ loop-again c = (search needs, c .before .before .before .loop .inv .1 ∙ below-
 returns-2 : tie.Need-returns-2 Inv-loop μ-loop
 returns-2 c = sym (c .before .loop .inv .1 ∙ below-none _ _ (c .before .loop .j) (c .loop-test .left))
 
-pub all-below-spec : {M : Type 1} → statement M
-all-below-spec =
+pub first-high-spec : {M : Type 1} → statement M
+first-high-spec =
     tie.close
     (tie.spec
     Inv-loop

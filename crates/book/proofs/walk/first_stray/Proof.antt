@@ -8,8 +8,8 @@ use denote.Ref.{now}
 use Rattle.book.specs.Bits.{put}
 use Rattle.book.specs.Inside.{walksIn}
 use Rattle.book.proofs.Walking.{route-cons, walk-on, walk-off, hop-low, walk-end, below-at}
-use Rattle.book.proofs.walk.walk_ok.Statement.{statement}
-use Rattle.book.proofs.walk.walk_ok.Tie as tie
+use Rattle.book.proofs.walk.first_stray.Statement.{statement}
+use Rattle.book.proofs.walk.first_stray.Tie as tie
 
 abbrev Inv-loop : tie.InvT-loop
 Inv-loop route from to left right met₀ p₀ j₀ met p j = (j ≤ length route) × (p < 64) × (walksIn left right (put 0 from) from route to ≡ walksIn left right met p (drop j route) to)
@@ -65,8 +65,8 @@ loop-again c =
 returns-2 : tie.Need-returns-2 Inv-loop μ-loop
 returns-2 c = let l = c .before .loop in sym (l .inv .2 ∙ walk-end _ _ _ _ _ (l .j) _ (c .loop-test .left))
 
-pub walk-ok-spec : {M : Type 1} → statement M
-walk-ok-spec =
+pub first-stray-spec : {M : Type 1} → statement M
+first-stray-spec =
     tie.close
     (tie.spec
     Inv-loop
