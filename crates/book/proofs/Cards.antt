@@ -10,7 +10,7 @@ use Rattle.book.specs.Book.{Span, Lightpath, RouteBook, below, every, co
 use Rattle.book.specs.Memory.{padded}
 use Rattle.book.specs.Choice.{owners, movableFrom, movable, sizes, product, choices, weighed, number, digits, alternativesOf, digitFor, rerouted, chosen}
 use Rattle.book.specs.Writing.{served, denied, writing}
-use Rattle.book.specs.Format.{bytesOf, encode, book, good, refused, reading}
+use Rattle.book.specs.Format.{bytesOf, encode, fromHigh, fromStray, book, good, refused, reading}
 
 -- docs/BOOK.md, the example book E
 abbrev pub E : List ℕ

@@ -51,7 +51,7 @@ module _ (n x : ℕ) (after : List ℕ) (h : n ≤ x) where
 
 -- a span that a walk passes
 module _ (sps : List Span) where
-  abbrev goes : List ℕ → ℕ → ℕ → Bool
+  abbrev pub goes : List ℕ → ℕ → ℕ → Bool
   goes met p x = touches (spanAt sps x) p && not (among (far (spanAt sps x) p) met)
 
   module _ (met : List ℕ) (p x : ℕ) (g : goes met p x ≡ true) where

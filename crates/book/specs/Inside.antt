@@ -61,13 +61,18 @@ strayIn left right met p last j (x ∷ xs) t =
     let q = farIn left right p x in
     let r = strayIn left right (put met q) q j (j + 1) xs t in cond (goesIn left right met p x) r (At j)
 
+-- it is a place in a route of n spans
+abbrev pub Within : ℕ → Amiss → Type 0
+Within n Nowhere = Unit {0}
+Within n (At i) = i ≤ n
+
 abbrev pub hopOf : List ℕ → List ℕ → ℕ → ℕ → ℕ → Hop
 hopOf left right met p x = cond (goesIn left right met p x) (To (farIn left right p x)) Off
 
 -- where a number of a route is too high: at the first that is not below n
 abbrev pub HighAt : ℕ → List ℕ → Amiss → Type 0
 HighAt n r Nowhere = below n r ≡ true
-HighAt n r (At i) = (below n r ≡ false) × (drop i r ≡ fromHigh n r) × (i < length r)
+HighAt n r (At i) = (below n r ≡ false) × (drop i r ≡ fromHigh n r) × (i ≤ length r)
 
 -- the spans of a book, in arrays
 pub record SpansIn (sps : List Span) (n : ℕ) (left right : List ℕ) : Type 0 where

@@ -133,11 +133,13 @@ fn route_no<'a>(
     let route = &d[at..at + n];
     let high = walk::first_high(route, spans);
     if let Amiss::At(j) = high {
-        return Flaw { no: 5, at: at + j };
+        let place = at + j;
+        return Flaw { no: 5, at: place };
     }
     let stray = walk::first_stray(route, from, to, left, right);
     if let Amiss::At(j) = stray {
-        return Flaw { no: 7, at: at + j };
+        let place = at + j;
+        return Flaw { no: 7, at: place };
     }
     Flaw { no: 0, at: 0 }
 }

@@ -3,9 +3,10 @@ use crate::set;
 ghost use mathlib.Core.Path.{_≡_};
 ghost use mathlib.Core.Bool.{true};
 ghost use Prim.Native.Nat.{_<_};
+ghost use lib.ListN.{length};
 ghost use Rattle.book.specs.Bits.{put};
 ghost use Rattle.book.specs.Book.{below};
-ghost use Rattle.book.specs.Inside.{hopOf, strayIn, HighAt, EndsLow};
+ghost use Rattle.book.specs.Inside.{hopOf, strayIn, Within, HighAt, EndsLow};
 
 // What one step of a walk gives: the node that it leads to, or that it leads nowhere.
 pub(crate) enum Hop {
@@ -54,7 +55,7 @@ pub(crate) fn first_stray<'a>(
     right: &'a [u8; 128],
 ) -> Amiss
     requires { ⌜ EndsLow (now left) (now right) × (below 128 (now route) ≡ true) × (from < 64) × (to < 64) ⌝ }
-    ensures { λ r. ⌜ r ≡ strayIn (now (left .entry)) (now (right .entry)) (put 0 from) from 0 0 (now (route .entry)) to ⌝ }
+    ensures { λ r. ⌜ (r ≡ strayIn (now (left .entry)) (now (right .entry)) (put 0 from) from 0 0 (now (route .entry)) to) × Within (length (now (route .entry))) r ⌝ }
 {
     let mut met = set::put(0, from);
     let mut p = from;
