@@ -1,6 +1,6 @@
 -- THE REFUSALS: reading refuses with the number n at the place p exactly if row n of the table applies there.
 -- What the reader still does is a function of what is due, so each record that stands is one equation, and each refusal is traced back to its row.
-use Prim.Native.Nat.{ℕ, zero, suc, _-_, _≤_}
+use Prim.Native.Nat.{ℕ, zero, suc, _-_}
 use mathlib.Core.Path.{_≡_, refl, sym, ap, _∙_, subst}
 use mathlib.Core.List.{List, [], _∷_, _++_, map, reverse, reverseAux}
 use mathlib.Core.Bool.{Bool, true, false, cond, false≢true}
@@ -18,6 +18,7 @@ use Rattle.book.proofs.Readers.{Bytes, bytes-after, apart, fields-back,
 use Rattle.book.proofs.Records.{hd-back, hd-only, nd-right, sp-right, lp-right, al-right}
 use Rattle.book.proofs.Format.{reading-back}
 use Rattle.book.proofs.Stands.{spent}
+use Rattle.book.proofs.Endings.{row-ending}
 use Rattle.book.proofs.Strays.{high-split, high-fails, high-from, stray-split, stray-fails, stray-from}
 
 -- what was got was not refused
@@ -270,27 +271,6 @@ book-found b h e =
     let st5 = after-alternatives st4 in
     opened-found st5 _ opens-EN e4 λ w r5 q. past-found (after-ending st5 q)
 
--- the place of a row is at its record or behind it
-route-within : {d : Due} {s u : List ℕ} {sps : List Span} {e : Ends} {len : ℕ} → RouteDue d s sps e len u → length u ≤ length s
-route-within (in-LP p f) = omega (arith, ap length p)
-route-within (in-AL p f) = omega (arith, ap length p)
-
-row-within : {d : Due} {s q : List ℕ} {n : ℕ} → Row d s n q → length q ≤ length s
-row-within (row1-mark o l) = omega arith
-row-within (row1-fields o l m k) = omega arith
-row-within (row1-route r f l) = omega arith
-row-within (row2 o l m) = omega arith
-row-within (row3 e f) = omega arith
-row-within (row4-node e l) = omega arith
-row-within (row4-span e f) = omega arith
-row-within (row4-lightpath e f) = omega arith
-row-within (row5 before x after v o l h) = omega (arith, route-within (o .is-due), length-append (before ++ x ∷ after) v, length-append before (x ∷ after), length-append after v)
-row-within (row6 r f) = omega arith
-row-within (row7 before x after v o l w) = omega (arith, route-within (o .is-due), length-append (before ++ x ∷ after) v, length-append before (x ∷ after), length-append after v)
-row-within (row8 e f) = omega arith
-row-within row9 = omega arith
-row-within (row10 e) = omega arith
-
 -- a fault is refused by its row, at its place
 pub fault-refused : (b : List ℕ) (n p : ℕ) → Fault b n p → reading b ≡ refused n p
 unfolding reading
@@ -309,7 +289,8 @@ refused-fault b n p h e = go (book b b) refl e
         let z = book-found b h (sym (book-resume b) ∙ ap blind q) in
         let l : k ≡ n = cc in
         let w : length b - length s ≡ p = cc in
-        record { due = z .0; rest = z .1; stands = z .2; onward = s; row = subst (λ (i : ℕ). Row (z .0) (z .1) i s) l (z .3); place = omega (arith, spent (z .2), row-within (z .3)) }
+        let r = row-ending (z .3) in
+        record { due = z .0; rest = z .1; stands = z .2; onward = s; row = subst (λ (i : ℕ). Row (z .0) (z .1) i s) l (z .3); place = omega (arith, spent (z .2), ap length (r .is), length-append (r .front) s) }
 
 -- a book has at most one fault
 pub fault-unique : (b : List ℕ) (n m p q : ℕ) → Fault b n p → Fault b m q → (n ≡ m) × (p ≡ q)
