@@ -66,6 +66,19 @@ pub every-row : (reading [] ≡ refused 1 0) × (reading (0x48 ∷ 0x44 ∷ []) 
 unfolding reading book each opened below fromHigh fromStray some count different walks lengthFits spanEnds lightpathEnds follows
 every-row = (refl, refl, refl, refl, refl, refl, refl, refl, refl, refl, refl, refl, refl, refl)
 
+-- 5 and 7 point at the span at fault. In E's last LP, from 3 to 0: a span with no end at the present node; one that leads back to a node already met;
+-- walks that end elsewhere, the last of them after it came to 0; and a number that is too high, though the walk breaks before it. And in its AL
+abbrev with-spans : ℕ → ℕ → List ℕ
+with-spans x y = take 66 E ++ (x ∷ y ∷ drop 68 E)
+
+abbrev with-alternative : ℕ → List ℕ
+with-alternative x = take 72 E ++ (x ∷ drop 73 E)
+
+pub bad-spans : (reading (with-spans 4 2) ≡ refused 7 66) × (reading (with-spans 2 0) ≡ refused 7 67) × (reading (with-spans 2 2) ≡ refused 7 67) × (reading (with-spans 2 1) ≡ refused 7 67)
+    × (reading (with-spans 3 0) ≡ refused 7 67) × (reading (with-spans 4 5) ≡ refused 5 67) × (reading (with-alternative 2) ≡ refused 7 72) × (reading (with-alternative 5) ≡ refused 5 72)
+unfolding reading book each opened below fromHigh fromStray some count different walks lengthFits spanEnds lightpathEnds follows
+bad-spans = (refl, refl, refl, refl, refl, refl, refl, refl)
+
 -- the choices of E: two, and choice 1 is written in 74 bytes; 73 are too few, and there is no choice 2
 abbrev E1 : List ℕ
 E1 = take 61 E ++ (0x4c ∷ 0x50 ∷ 3 ∷ 0 ∷ 1 ∷ 3 ∷ drop 68 E)

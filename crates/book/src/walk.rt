@@ -71,19 +71,23 @@ pub(crate) fn first_stray<'a>(
         last = j;
         j += 1;
     }
-    if p == to { Amiss::Nowhere } else { Amiss::At(last) }
+    if p == to {
+        Amiss::Nowhere
+    } else {
+        Amiss::At(last)
+    }
 }
 
 // The first span number of a route that is not below n.
 pub(crate) fn first_high(route: &[u8], n: u8) -> Amiss
     ensures { λ r. ⌜ HighAt n (now (route .entry)) r ⌝ }
 {
-    let mut j = 0;
-    while j < route.len() {
-        if n <= route[j] {
-            return Amiss::At(j);
+    let mut i = 0;
+    while i < route.len() {
+        if n <= route[i] {
+            return Amiss::At(i);
         }
-        j += 1;
+        i += 1;
     }
     Amiss::Nowhere
 }

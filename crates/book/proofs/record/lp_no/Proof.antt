@@ -37,7 +37,7 @@ route-no-requires c κs =
     let s = c .before .before .before .before .before .before .before .before in
     let t = sym (c .before .ends-fit .ensures) ∙ not-false _ (c .if2 .left) in
     let e = ends-low (s .args .nodes) (s .args .stations) (getD (now (s .args .d)) 2 0) (getD (now (s .args .d)) 3 0) t in
-    (s .pre .0, s .pre .1, omega (arith, e .0), omega (arith, e .1), omega (arith, c .before .before .before .before .before .before .opened-no .ensures .whole (c .before .before .before .before .before .if1 .left)))
+    (s .pre .0, s .pre .1, omega (arith, e .0, e .1), omega (arith, e .0, e .1), omega (arith, c .before .before .before .before .before .before .opened-no .ensures .whole (c .before .before .before .before .before .if1 .left)))
 
 returns-3 : tie.Need-returns-3
 returns-3 c =

@@ -66,7 +66,7 @@ first-stray-requires c κs =
     let s = c .before .before .before .before .before .before .before .before .pre in
     let x = c .before .before .before .before .before .before .before .before .args in
     let r = take (x .at + x .len - x .at) (drop (x .at) (now (x .d))) in
-    (s .0, below-wider (x .spans) 128 r (s .1) (subst (HighAt (x .spans) r) (c .enum-told .given .1) (c .before .before .first-high .ensures)), s .2, s .3)
+    (s .0, below-wider (x .spans) 128 r (s .1) (subst (HighAt (x .spans) r) (c .enum-told .given .1) (c .before .before .first-high .ensures)), search needs, search needs)
 
 enum-known-stray : tie.Need-enum-known-stray
 enum-known-stray c = search needs

@@ -12,10 +12,10 @@ use Rattle.book.proofs.walk.first_high.Statement.{statement}
 use Rattle.book.proofs.walk.first_high.Tie as tie
 
 abbrev Inv-loop : tie.InvT-loop
-Inv-loop route n j₀ j = (j ≤ length route) × (below n route ≡ below n (drop j route)) × (fromHigh n route ≡ fromHigh n (drop j route))
+Inv-loop route n i₀ i = (i ≤ length route) × (below n route ≡ below n (drop i route)) × (fromHigh n route ≡ fromHigh n (drop i route))
 
 abbrev μ-loop : tie.MeasureT-loop
-μ-loop route n j₀ j = length route - j
+μ-loop route n i₀ i = length route - i
 
 loop-holds : tie.Need-loop-holds Inv-loop μ-loop
 loop-holds c = (zero-le, refl, refl)
@@ -28,13 +28,13 @@ returns c =
     let s = c .before .before .before .before .args in
     let l = c .before .before .before .loop in
     let t = c .before .before .loop-test .taken in (
-      l .inv .1 ∙ below-stop (s .n) (now (s .route)) (l .j) t (omega arith),
-      sym (l .inv .2 ∙ high-stop (s .n) (now (s .route)) (l .j) t (omega arith)),
+      l .inv .1 ∙ below-stop (s .n) (now (s .route)) (l .i) t (omega arith),
+      sym (l .inv .2 ∙ high-stop (s .n) (now (s .route)) (l .i) t (omega arith)),
       l .inv .0,
     )
 
-add-j : tie.Need-add-j Inv-loop μ-loop
-add-j c = search needs
+add-i : tie.Need-add-i Inv-loop μ-loop
+add-i c = search needs
 
 loop-less : tie.Need-loop-less Inv-loop μ-loop
 loop-less c = search needs
@@ -45,12 +45,12 @@ loop-again c =
     let l = c .before .before .before .loop in
     let t = c .before .before .loop-test .taken in (
       search needs,
-      l .inv .1 ∙ below-more (s .n) (now (s .route)) (l .j) t (omega arith),
-      l .inv .2 ∙ high-more (s .n) (now (s .route)) (l .j) t (omega arith),
+      l .inv .1 ∙ below-more (s .n) (now (s .route)) (l .i) t (omega arith),
+      l .inv .2 ∙ high-more (s .n) (now (s .route)) (l .i) t (omega arith),
     )
 
 returns-2 : tie.Need-returns-2 Inv-loop μ-loop
-returns-2 c = c .before .loop .inv .1 ∙ below-none _ _ (c .before .loop .j) (c .loop-test .left)
+returns-2 c = c .before .loop .inv .1 ∙ below-none _ _ (c .before .loop .i) (c .loop-test .left)
 
 pub first-high-spec : {M : Type 1} → statement M
 first-high-spec =
@@ -61,7 +61,7 @@ first-high-spec =
     loop-holds
     shared-slice-read-if1
     returns
-    add-j
+    add-i
     loop-less
     loop-again
     returns-2)
