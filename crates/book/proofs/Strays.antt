@@ -1,13 +1,13 @@
 -- The span at fault, as the reader finds it and in the words of the table: a route with a number that is too high, or whose walk fails, is cut
 -- before just one span, which the row names. So the bytes from that span on are what the reader points at.
-use Prim.Native.Nat.{ℕ, suc, _≤_}
+use Prim.Native.Nat.{ℕ, _≤_}
 use mathlib.Core.Path.{_≡_, refl, sym, ap, _∙_}
 use mathlib.Core.List.{List, [], _∷_, _++_, append-nil}
 use mathlib.Core.Bool.{Bool, true, false, not, _&&_, false≢true}
 use native.Mathlib.Omega.{arith}
 use lib.ListN.{length, length-append}
-use lib.Dec.{eqb, ltb}
-use borrow.Author.Tests.{lt-ltb, le-ltb, ltb-true, ltb-false, ne-eqb, eqb-false}
+use lib.Dec.{ltb}
+use borrow.Author.Tests.{le-ltb, ltb-false, ne-eqb, eqb-false}
 use Rattle.book.specs.Book.{Span, among, below, spanAt, touches, far, walks}
 use Rattle.book.specs.Format.{fromHigh, fromStray}
 use Rattle.book.specs.Refusal.{Leads, no-span, span-on, Stray, untouched, met-again, elsewhere}

@@ -3,7 +3,7 @@
 use Prim.Native.Nat.{ℕ, zero, suc, _+_, _≤_, _<_}
 use mathlib.Core.Path.{_≡_, refl, sym, ap, _∙_, subst}
 use mathlib.Core.List.{List, [], _∷_}
-use mathlib.Core.Bool.{Bool, true, false, cond, not, _&&_, _||_}
+use mathlib.Core.Bool.{Bool, true, false, cond, _||_}
 use native.Mathlib.Decide.{ℕ-discrete}
 use native.Mathlib.Numerals.{add-one}
 use native.Mathlib.Omega.{arith}
@@ -16,7 +16,7 @@ use Rattle.book.specs.declared.walk.Hop.the-variants.{To, Off}
 use Rattle.book.specs.declared.walk.Amiss.{Amiss}
 use Rattle.book.specs.declared.walk.Amiss.the-variants.{Nowhere, At}
 use Rattle.book.specs.Bits.{bit, has, put}
-use Rattle.book.specs.Book.{Span, among, below, spanAt, touches, far, walks}
+use Rattle.book.specs.Book.{Span, among, below, spanAt, far, walks}
 use Rattle.book.specs.Format.{fromHigh, fromStray}
 use Rattle.book.specs.Inside.{EndsLow, farIn, goesIn, strayIn, hopOf}
 use Rattle.book.proofs.Tests.{and-inv, and-both}

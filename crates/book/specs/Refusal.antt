@@ -55,7 +55,7 @@ pub data RouteDue : Due → List ℕ → List Span → Ends → ℕ → List ℕ
       → s ≡ recordBytes AL (l ∷ len ∷ []) ++ u → follows (length es) (map lightpathOf als) l ≡ true
       → RouteDue (alternatives sps es (suc k) als) s sps (endsAt es l) len u
 
--- B35: such a route is there: its length fits, its bytes are r, and v comes after them
+-- B40, B42: such a route is there: its length fits, its bytes are r, and v comes after them
 pub record RouteThere (d : Due) (s : List ℕ) (sps : List Span) (e : Ends) (r v : List ℕ) : Type 0 where
   pub is-due : RouteDue d s sps e (length r) (r ++ v)
   pub fits : lengthFits (length r) ≡ true
