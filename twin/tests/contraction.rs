@@ -1,7 +1,7 @@
 //! Contraction: its cards, books kept for one rule each, and the plain judgement against it.
 
-#[path = "../common/mod.rs"]
 mod common;
+#[path = "contraction/slow.rs"]
 mod slow;
 
 use common::*;
