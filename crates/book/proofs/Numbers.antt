@@ -32,8 +32,8 @@ module _ {A : Type 0} {q : Reader A} {d : List ℕ} {a : A} {t : ℕ} where
   pub placed-bad : (n i : ℕ) → (n ≡ 0 → ⊥) → q d d ≡ bad n (drop i d) → NumberedAt n i q d a t
   placed-bad n i h e = record { told = rw (ne-eqb n 0 h) e; whole = λ z. absurd (h z) }
 
-  pub placed-got : q d d ≡ got a (drop t d) → t ≤ length d → (i : ℕ) → NumberedAt 0 i q d a t
-  placed-got e l i = record { told = e; whole = λ z. l }
+  pub placed-got : q d d ≡ got a (drop t d) → t ≤ length d → NumberedAt 0 0 q d a t
+  placed-got e l = record { told = e; whole = λ z. l }
 
   pub placed-on : {r i : ℕ} → NumberedAt r i q d a t → r ≡ 0 → q d d ≡ got a (drop t d)
   placed-on {r} n z = n .told ∙ rw (eq-eqb r 0 z)

@@ -79,7 +79,7 @@ module _ (sps : List Span) (e : Ends) (len : ℕ) (d : List ℕ) (at : ℕ) wher
         route-stray b w h = placed-bad 7 (at + i) (λ z. omega arith) (rw (f, le-leb len (length (drop at d)) l, b, w, points (fromStray sps (e .from ∷ []) (e .from) r) h))
 
       route-good : at + len ≤ length d → below (length sps) r ≡ true → routeWalks sps e r ≡ true → RouteIs 0 0
-      route-good k b w = placed-got (rw (f, le-leb len (length (drop at d)) l, b, w, drop-drop len at d)) k 0
+      route-good k b w = placed-got (rw (f, le-leb len (length (drop at d)) l, b, w, drop-drop len at d)) k
 
 -- the same over the arrays that the code has
 module _ (d : List ℕ) (at len from to spans : ℕ) (left right : List ℕ) where

@@ -54,6 +54,9 @@ farIn left right p x = cond (eqb (getD left x 0) p) (getD right x 0) (getD left 
 abbrev pub goesIn : List ℕ → List ℕ → ℕ → ℕ → ℕ → Bool
 goesIn left right met p x = (eqb (getD left x 0) p || eqb (getD right x 0) p) && not (has met (farIn left right p x))
 
+abbrev pub hopOf : List ℕ → List ℕ → ℕ → ℕ → ℕ → Hop
+hopOf left right met p x = cond (goesIn left right met p x) (To (farIn left right p x)) Off
+
 -- where such a walk fails: at span j, which is next; or at the last one passed, where it is over and has not come to t
 unfoldable pub strayIn : List ℕ → List ℕ → ℕ → ℕ → ℕ → ℕ → List ℕ → ℕ → Amiss
 strayIn left right met p last j [] t = cond (eqb p t) Nowhere (At last)
@@ -61,13 +64,10 @@ strayIn left right met p last j (x ∷ xs) t =
     let q = farIn left right p x in
     let r = strayIn left right (put met q) q j (j + 1) xs t in cond (goesIn left right met p x) r (At j)
 
--- it is a place in a route of n spans
+-- no further than the end of a route of n spans
 abbrev pub Within : ℕ → Amiss → Type 0
 Within n Nowhere = Unit {0}
 Within n (At i) = i ≤ n
-
-abbrev pub hopOf : List ℕ → List ℕ → ℕ → ℕ → ℕ → Hop
-hopOf left right met p x = cond (goesIn left right met p x) (To (farIn left right p x)) Off
 
 -- where a number of a route is too high: at the first that is not below n
 abbrev pub HighAt : ℕ → List ℕ → Amiss → Type 0
@@ -80,10 +80,11 @@ pub record SpansIn (sps : List Span) (n : ℕ) (left right : List ℕ) : Type 0 
   pub is-left : (x : ℕ) → getD left x 0 ≡ spanAt sps x .left
   pub is-right : (x : ℕ) → getD right x 0 ≡ spanAt sps x .right
 
--- the number r of a route that begins `at` bytes into the record d, and how far into it the fault is
+-- what a reader does n bytes on
 abbrev pub after : {A : Type 0} → ℕ → Reader A → Reader A
 after n q here s = q here (drop n s)
 
+-- the number r of a route that begins `at` bytes into the record d, and how many bytes i into the record its fault is
 pub record RouteNo (r i : ℕ) (d : List ℕ) (at len from to spans : ℕ) (left right : List ℕ) : Type 0 where
   pub whole : r ≡ 0 → at + len ≤ length d
   pub short : r ≡ 0 → len ≤ 16
