@@ -30,7 +30,8 @@ use Rattle.judgement.specs.Merge.{Table, relabelled, Labelled, trailOf}
 use Rattle.judgement.proofs.First.{there, nowhere, first-only}
 use Rattle.judgement.proofs.Sets.{low-in, low-below}
 use Rattle.judgement.proofs.Stations.{lowest-lt}
-use Rattle.judgement.proofs.Merging.{or-inv, Under, nothing, one-more, lowest-passes, under, ring-le}
+use Rattle.judgement.proofs.Tests.{or-inv}
+use Rattle.judgement.proofs.Merging.{Under, nothing, one-more, lowest-passes, under, ring-le}
 use Rattle.judgement.proofs.Carried.{touched-is}
 
 module _ (n : ℕ) (f : ℕ → ℕ) where

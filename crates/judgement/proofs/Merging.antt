@@ -25,22 +25,12 @@ use Rattle.judgement.specs.Contraction.{lost, touches, every, round, rin
 use Rattle.judgement.specs.Merge.{but, leadsBy, seenBy}
 use Rattle.judgement.specs.declared.ring.Carried.{Carried}
 use Rattle.judgement.proofs.First.{First, there, nowhere, first, first-only}
-use Rattle.judgement.proofs.Sums.{sum-le}
+use Rattle.judgement.proofs.Sums.{sum-less}
+use Rattle.judgement.proofs.Tests.{or-l, or-r, or-inv}
 
 pub or-none : (a : Bool) → (a || false) ≡ a
 or-none true = refl
 or-none false = refl
-
-pub or-l : {a : Bool} (b : Bool) → a ≡ true → (a || b) ≡ true
-or-l b e = ap (λ (q : Bool). q || b) e
-
-pub or-r : (a : Bool) {b : Bool} → b ≡ true → (a || b) ≡ true
-or-r true e = refl
-or-r false e = e
-
-pub or-inv : (a b : Bool) → (a || b) ≡ true → (a ≡ true) ⊎ (b ≡ true)
-or-inv true b e = inl refl
-or-inv false b e = inr e
 
 -- all of a list are below n
 pub data Under (n : ℕ) : List ℕ → Type 0 where
@@ -69,16 +59,6 @@ first-lowest {A} t f out n = go (first t (λ k. k) n n 0)
     go : {v : ℕ} → First t (λ k. k) n n 0 v → firstOf t f out n 0 ≡ cond (ltb v n) (f v) out
     go (there x a b h below) = sym (first-only t f out n 0 (there x a b h below)) ∙ sym (ap (λ (q : Bool). cond q (f x) out) (lt-ltb x n (omega arith)))
     go (nowhere none) = sym (first-only t f out n 0 (nowhere none)) ∙ sym (ap (λ (q : Bool). cond q (f n) out) (le-ltb n n (le-refl n)))
-
--- terms that are no greater, and one that is less
-pub sum-less : (f g : ℕ → ℕ) (n i : ℕ) → ((j : ℕ) → j < n → f j ≤ g j) → i < n → f i < g i → sum f n < sum g n
-unfolding sum
-sum-less f g zero i h l q = absurd (omega arith)
-sum-less f g (suc n) i h l q = go (λ z. sum-less f g n i (λ j r. h j (omega arith)) z q) (ℕ-discrete i n)
-  where
-    go : (i < n → sum f n < sum g n) → Dec (i ≡ n) → sum f n + f n < sum g n + g n
-    go ih (yes y) = let r : f n < g n = subst (λ (j : ℕ). f j < g j) y q in omega (arith, sum-le f g n (λ j r. h j (omega arith)))
-    go ih (no z) = omega (arith, ih (omega arith), h n (omega arith))
 
 -- where the first end is x, the set has to have the second, whatever that is
 pub leads-first : {f : Bool} (x m a b : ℕ) → f ≡ true → a ≡ x → has m b ≡ leadsBy f x m a b
