@@ -25,6 +25,7 @@ use Rattle.judgement.specs.Contraction.{lost, touches, every, round, rin
 use Rattle.judgement.specs.Merge.{but, leadsBy, seenBy}
 use Rattle.judgement.specs.declared.ring.Carried.{Carried}
 use Rattle.judgement.proofs.First.{First, there, nowhere, first, first-only}
+use Rattle.judgement.proofs.Sets.{bit-and}
 use Rattle.judgement.proofs.Sums.{sum-less}
 use Rattle.judgement.proofs.Tests.{or-l, or-r, or-inv}
 
