@@ -32,6 +32,9 @@ bool gristvalley_read(const uint8_t *book, size_t book_len, uint64_t *out, size_
 /* Judges a choice. OVER, SPLIT, CUT or OK: span, load, limit, side (bit i for node i). */
 bool gristvalley_judge(const uint8_t *book, size_t book_len, uint32_t choice, uint64_t *out, size_t out_len);
 
+/* Judges a choice by contraction. As gristvalley_judge, and then the number of merges. */
+bool gristvalley_contract(const uint8_t *book, size_t book_len, uint32_t choice, uint64_t *out, size_t out_len);
+
 /* Scores a choice. TOLD: F, Fc. */
 bool gristvalley_score(const uint8_t *book, size_t book_len, uint32_t choice, uint64_t *out, size_t out_len);
 

@@ -94,16 +94,18 @@ impl Book {
             .fold(0, |set, &node| set | 1 << node)
     }
 
-    /// Whether `route` walks from `from` to `to` without meeting a node twice.
-    pub fn walks(&self, from: u8, to: u8, route: &[u8]) -> bool {
+    /// The place in `route` of the span at which its walk from `from` to `to` fails: the first that does not lead on to a node not yet met,
+    /// or the last if the walk ends elsewhere.
+    pub fn stray(&self, from: u8, to: u8, route: &[u8]) -> Option<usize> {
         let mut met = vec![from];
-        for &span in route {
+        for (place, &span) in route.iter().enumerate() {
             let present = met[met.len() - 1];
             match self.spans[usize::from(span)].across(present) {
                 Some(next) if !met.contains(&next) => met.push(next),
-                _ => return false,
+                _ => return Some(place),
             }
         }
-        met[met.len() - 1] == to
+        let last = route.len() - 1;
+        (met[met.len() - 1] != to).then_some(last)
     }
 }

@@ -4,6 +4,8 @@
 
 /// The route book as data, its bounds, and the refusal.
 pub mod book;
+/// The judgement by contraction of rings, a second engine.
+pub mod contraction;
 /// The cut-set form of the judgement, for small books.
 pub mod cutset;
 /// Seeded making of good and damaged books.
@@ -26,6 +28,7 @@ pub mod searching;
 pub mod writing;
 
 pub use book::{Book, Refusal};
+pub use contraction::{contract, Contracted};
 pub use judgement::{ask, judge, score, Verdict};
 pub use reading::read;
 pub use reporting::report;

@@ -27,6 +27,17 @@ impl<'a> Reader<'a> {
         }
     }
 
+    /// Refuses by `number` at the span with the fault, if one has it, of a route that begins at `start`.
+    fn demand_spans(&self, fault: Option<usize>, start: usize, number: u8) -> Result<(), Refusal> {
+        match fault {
+            None => Ok(()),
+            Some(span) => {
+                let place = start + span;
+                Err(Refusal { number, place })
+            }
+        }
+    }
+
     /// The next `count` bytes together, or 1 if the book ends before them.
     fn take(&mut self, count: usize) -> Result<&'a [u8], Refusal> {
         let rest = &self.bytes[self.offset..];
@@ -43,14 +54,15 @@ impl<'a> Reader<'a> {
         self.take(fields)
     }
 
-    /// The spans of a route: the length (6), the bytes (1), their values (5), the walk (7).
+    /// The spans of a route: the length (6), the bytes (1), their values (5), the walk (7); the last two at the span with the fault.
     fn route(&mut self, book: &Book, from: u8, to: u8, length: u8) -> Result<Vec<u8>, Refusal> {
         let length = usize::from(length);
         self.demand((1..=LONGEST_ROUTE).contains(&length), 6)?;
+        let start = self.offset;
         let route = self.take(length)?;
-        let known = route.iter().all(|&s| usize::from(s) < book.spans.len());
-        self.demand(known, 5)?;
-        self.demand(book.walks(from, to, route), 7)?;
+        let unknown = |&span: &u8| usize::from(span) >= book.spans.len();
+        self.demand_spans(route.iter().position(unknown), start, 5)?;
+        self.demand_spans(book.stray(from, to, route), start, 7)?;
         Ok(route.to_vec())
     }
 

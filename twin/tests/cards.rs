@@ -98,7 +98,7 @@ fn p10_books_too_short_and_too_long() {
 
 #[test]
 fn routes_are_walked_in_their_order() {
-    assert_eq!(read(&e_spliced(66..68, &[4, 2])), Err(refusal(7, 61)));
+    assert_eq!(read(&e_spliced(66..68, &[4, 2])), Err(refusal(7, 66)));
 }
 
 #[test]

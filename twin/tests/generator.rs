@@ -1,6 +1,7 @@
 //! The generator's books are varied enough: the counts are printed and held to least shares.
 
 use std::collections::{BTreeMap, BTreeSet};
+use twin::contraction::{contract_plan, Contracted};
 use twin::generate::{damaged, good, numbers, Random};
 use twin::hex::{from_hex, to_hex};
 use twin::judgement::{verdict, Verdict};
@@ -55,6 +56,41 @@ fn verdicts_and_answers_come_in_fair_numbers() {
     let shares = verdicts.values().chain(answers.values());
     assert!(shares.min().unwrap() * 100 >= BOOKS * 5);
     assert!(totals.len() >= 300);
+}
+
+/// The names of what is worth seeing in a contraction.
+fn contraction_names(contracted: &Contracted) -> Vec<&'static str> {
+    let (merges, pieces) = (contracted.merges, contracted.pieces.len());
+    let okay = contracted.verdict == Verdict::Okay;
+    let told = [
+        (merges > 0, "merges"),
+        (merges > 1, "several merges"),
+        (okay && pieces > 1, "OK with pieces left"),
+        (
+            okay && pieces > 1 && merges > 0,
+            "OK with merges and pieces left",
+        ),
+        (!okay && merges > 0, "SPLIT or CUT after merges"),
+    ];
+    told.iter()
+        .filter(|(seen, _)| *seen)
+        .map(|(_, name)| *name)
+        .collect()
+}
+
+#[test]
+fn contractions_come_in_fair_numbers() {
+    let mut random = Random::new(6);
+    let mut counts = Counts::new();
+    for _ in 0..BOOKS {
+        let book = good(random.bits());
+        for name in contraction_names(&contract_plan(&Plan::new(&book, 0))) {
+            *counts.entry(name).or_default() += 1;
+        }
+    }
+    println!("contractions {counts:?}");
+    assert_eq!(counts.len(), 5);
+    assert!(*counts.values().min().unwrap() * 100 >= BOOKS * 3);
 }
 
 #[test]

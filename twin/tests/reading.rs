@@ -84,32 +84,43 @@ fn no_station_comes_before_the_next_mark() {
 fn lengths_spans_and_walks() {
     altered(47, 0, 6, 43);
     altered(47, 17, 6, 43);
-    altered(48, 5, 5, 43);
-    altered(48, 1, 7, 43);
+    // These two are placed at the span with the fault.
+    altered(48, 5, 5, 48);
+    altered(48, 1, 7, 48);
     // The whole route is tested for known spans before it is walked.
-    assert_eq!(read(&e_spliced(66..68, &[0, 5])), Err(refusal(5, 61)));
+    assert_eq!(read(&e_spliced(66..68, &[0, 5])), Err(refusal(5, 67)));
     // The bytes of the route must be there before their values count.
     assert_eq!(read(&e_spliced(66..75, &[5])), Err(refusal(1, 61)));
     // Meeting the far end and coming back to it.
     let back = e_spliced(47..49, &[3, 0, 1, 4]);
-    assert_eq!(read(&back), Err(refusal(7, 43)));
+    assert_eq!(read(&back), Err(refusal(7, 50)));
     let there = e_spliced(47..49, &[3, 0, 0, 0]);
-    assert_eq!(read(&there), Err(refusal(7, 43)));
+    assert_eq!(read(&there), Err(refusal(7, 49)));
+    // Spans that do not touch, that lead back to the start, and walks that end elsewhere, the second after it met "to".
+    for (spans, place) in [
+        ([4, 2], 66),
+        ([2, 0], 67),
+        ([2, 2], 67),
+        ([2, 1], 67),
+        ([3, 0], 67),
+    ] {
+        assert_eq!(read(&e_spliced(66..68, &spans)), Err(refusal(7, place)));
+    }
 }
 
 #[test]
 fn alternatives() {
     altered(70, 4, 8, 68);
     altered(71, 0, 6, 68);
-    altered(72, 5, 5, 68);
-    altered(72, 4, 7, 68);
+    altered(72, 5, 5, 72);
+    altered(72, 4, 7, 72);
     let mut both = e_with(70, 4);
     both[71] = 0;
     assert_eq!(read(&both), Err(refusal(8, 68)));
     assert_eq!(read(&both[..71]), Err(refusal(1, 68)));
     // Only from "from" to "to".
     let reversed = e_spliced(71..73, &[2, 4, 2]);
-    assert_eq!(read(&reversed), Err(refusal(7, 68)));
+    assert_eq!(read(&reversed), Err(refusal(7, 72)));
     let mut falling = e_spliced(73..73, &[b'A', b'L', 2, 1, 2]);
     falling[5] = 2;
     assert_eq!(read(&falling), Err(refusal(8, 73)));

@@ -10,7 +10,7 @@ use Rattle.book.specs.Book.{Span, Lightpath, RouteBook, below, every, co
 use Rattle.book.specs.Memory.{padded}
 use Rattle.book.specs.Choice.{owners, movableFrom, movable, sizes, product, choices, weighed, number, digits, alternativesOf, digitFor, rerouted, chosen}
 use Rattle.book.specs.Writing.{served, denied, writing}
-use Rattle.book.specs.Format.{bytesOf, encode, book, good, refused, reading}
+use Rattle.book.specs.Format.{bytesOf, encode, fromHigh, fromStray, book, good, refused, reading}
 
 -- docs/BOOK.md, the example book E
 abbrev pub E : List ℕ
@@ -61,10 +61,23 @@ path t s = pair 1 0 (0x4c ∷ 0x50 ∷ 0 ∷ t ∷ s)
 
 pub every-row : (reading [] ≡ refused 1 0) × (reading (0x48 ∷ 0x44 ∷ []) ≡ refused 1 0) × (reading (path 1 (1 ∷ [])) ≡ refused 1 17) × (reading (0 ∷ 0 ∷ []) ≡ refused 2 0)
     × (reading (head 0 0 0 0 []) ≡ refused 3 0) × (reading (head 1 0 0 0 (node 2 [])) ≡ refused 4 6) × (reading (head 1 1 0 0 (node 1 (0x53 ∷ 0x50 ∷ 0 ∷ 0 ∷ 0 ∷ []))) ≡ refused 4 9)
-    × (reading (path 0 (0 ∷ [])) ≡ refused 4 17) × (reading (path 1 (1 ∷ 1 ∷ [])) ≡ refused 5 17) × (reading (path 1 (0 ∷ [])) ≡ refused 6 17) × (reading (path 1 (2 ∷ 0 ∷ 0 ∷ [])) ≡ refused 7 17)
+    × (reading (path 0 (0 ∷ [])) ≡ refused 4 17) × (reading (path 1 (1 ∷ 1 ∷ [])) ≡ refused 5 22) × (reading (path 1 (0 ∷ [])) ≡ refused 6 17) × (reading (path 1 (2 ∷ 0 ∷ 0 ∷ [])) ≡ refused 7 23)
     × (reading (pair 0 1 (0x41 ∷ 0x4c ∷ 0 ∷ 1 ∷ 0 ∷ [])) ≡ refused 8 17) × (reading (head 1 0 0 0 (node 1 (0x45 ∷ 0x4e ∷ 0 ∷ []))) ≡ refused 9 11) × (reading (head 1 0 0 0 (node 0 [])) ≡ refused 10 9)
-unfolding reading book each opened below some count different walks lengthFits spanEnds lightpathEnds follows
+unfolding reading book each opened below fromHigh fromStray some count different walks lengthFits spanEnds lightpathEnds follows
 every-row = (refl, refl, refl, refl, refl, refl, refl, refl, refl, refl, refl, refl, refl, refl)
+
+-- 5 and 7 point at the span at fault. In E's last LP, from 3 to 0: a span with no end at the present node; one that leads back to a node already met;
+-- walks that end elsewhere, the last of them after it came to 0; and a number that is too high, though the walk breaks before it. And in its AL
+abbrev with-spans : ℕ → ℕ → List ℕ
+with-spans x y = take 66 E ++ (x ∷ y ∷ drop 68 E)
+
+abbrev with-alternative : ℕ → List ℕ
+with-alternative x = take 72 E ++ (x ∷ drop 73 E)
+
+pub bad-spans : (reading (with-spans 4 2) ≡ refused 7 66) × (reading (with-spans 2 0) ≡ refused 7 67) × (reading (with-spans 2 2) ≡ refused 7 67) × (reading (with-spans 2 1) ≡ refused 7 67)
+    × (reading (with-spans 3 0) ≡ refused 7 67) × (reading (with-spans 4 5) ≡ refused 5 67) × (reading (with-alternative 2) ≡ refused 7 72) × (reading (with-alternative 5) ≡ refused 5 72)
+unfolding reading book each opened below fromHigh fromStray some count different walks lengthFits spanEnds lightpathEnds follows
+bad-spans = (refl, refl, refl, refl, refl, refl, refl, refl)
 
 -- the choices of E: two, and choice 1 is written in 74 bytes; 73 are too few, and there is no choice 2
 abbrev E1 : List ℕ

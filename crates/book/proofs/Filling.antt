@@ -15,6 +15,7 @@ use Rattle.book.specs.Format.{nd, sp}
 use Rattle.book.specs.Bits.{putIf, stationsInto, stationSet}
 use Rattle.book.specs.Memory.{padded, bookOf, emptyBook, remade}
 use Rattle.book.specs.Inside.{Numbered, spanIn, partly, Reached, Halted, HoldsNodes, HoldsSpans}
+use Rattle.book.proofs.Numbers.{at-first}
 use Rattle.book.proofs.Padded.{padded-none}
 use Rattle.book.proofs.Stations.{stations-more}
 use Rattle.book.proofs.Turns.{Turned, turned-start, turned-next, turned-stop, turned-done, column-more}
@@ -37,7 +38,7 @@ module _ (s : List ℕ) (start m : ℕ) where
         let c : k ≡ 0 + length (reverse (now .before)) = omega (arith, now .turned .counted, length-reverse (now .before)) in
         record {
           before = eqb (getD (drop at s) 2 0) 1 ∷ now .before;
-          turned = turned-next (λ x. nd) s start m (now .turned) l n z;
+          turned = turned-next (λ x. nd) s start m (now .turned) l (at-first n) z;
           is-set =
               ap (λ (b : Bool). putIf b stations k) q ∙ ap (λ (x : ℕ). putIf (eqb (getD (drop at s) 2 0) 1) x k) (now .is-set)
               ∙ ap (putIf (eqb (getD (drop at s) 2 0) 1) (stationSet (reverse (now .before)))) c
@@ -45,7 +46,7 @@ module _ (s : List ℕ) (start m : ℕ) where
         }
 
     pub nodes-stop : (no ≡ 0 → ⊥) → Halted s (each (λ x. nd) m [] s (drop start s)) no at
-    nodes-stop h = record { is = turned-stop (λ x. nd) s start m (now .turned) l n h; within = now .turned .within }
+    nodes-stop h = record { is = turned-stop (λ x. nd) s start m (now .turned) l (at-first n) h; within = now .turned .within }
 
   pub nodes-done : {k at stations : ℕ} → NodesTurned k at stations → m ≤ k → {b : Book} → b ≡ bookOf emptyBook
       → Reached s (each (λ x. nd) m [] s (drop start s)) HoldsNodes at (remade m (b .spans) (b .lightpaths) (b .alternatives) stations (b .left) (b .right) (b .limit) (b .from) (b .to) (b .owner) (b .len) (b .route) (b .low) (b .high))
@@ -83,14 +84,14 @@ module _ (nodes : ℕ) (s : List ℕ) (start m : ℕ) where
         let u : k < 128 = omega arith in
         record {
           before = spanIn (drop at s) ∷ now .before;
-          turned = turned-next (λ x. sp nodes) s start m (now .turned) l n z;
+          turned = turned-next (λ x. sp nodes) s start m (now .turned) l (at-first n) z;
           is-left = ap (set left k) (sym (getD-drop at s 2 0)) ∙ column-more 128 (λ (x : Span). x .left) k (now .before) (spanIn (drop at s)) left c u (now .is-left);
           is-right = ap (set right k) (sym (getD-drop at s 3 0)) ∙ column-more 128 (λ (x : Span). x .right) k (now .before) (spanIn (drop at s)) right c u (now .is-right);
           is-limit = ap (set limit k) (sym (getD-drop at s 4 0)) ∙ column-more 128 (λ (x : Span). x .limit) k (now .before) (spanIn (drop at s)) limit c u (now .is-limit);
         }
 
     pub spans-stop : (no ≡ 0 → ⊥) → Halted s (each (λ x. sp nodes) m [] s (drop start s)) no at
-    spans-stop h = record { is = turned-stop (λ x. sp nodes) s start m (now .turned) l n h; within = now .turned .within }
+    spans-stop h = record { is = turned-stop (λ x. sp nodes) s start m (now .turned) l (at-first n) h; within = now .turned .within }
 
 pub spans-done : (s : List ℕ) (start m : ℕ) (b : Book) (ns : List Bool) → b ≡ bookOf (partly ns [] [] []) → {k at : ℕ} {left right limit : List ℕ}
     → SpansTurned (b .nodes) s start m k at left right limit → m ≤ k

@@ -5,7 +5,10 @@ pub mod Readers
 pub mod Records
 pub mod Format
 pub mod Stands
+pub mod Endings
+pub mod Strays
 pub mod Refusals
+pub mod BadSpan
 pub mod Longest
 pub mod Bits
 pub mod Numbers

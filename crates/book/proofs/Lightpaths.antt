@@ -9,12 +9,12 @@ use lib.ListN.{length, getD, take, drop, set, replicate, length-map, length-appe
 use lib.Seq.{paste, length-paste, getD-drop, drop-drop, length-take-le}
 use lib.Dec.{eqb}
 use Rattle.book.specs.declared.Book.{Book}
-use Rattle.book.specs.Reader.{each}
+use Rattle.book.specs.Reader.{bad, each}
 use Rattle.book.specs.Book.{Span, Ends, Lightpath, Alternative, every, lightpathEnds, lightpathFits, lengthFits, endsOf, lightpathOf}
 use Rattle.book.specs.Format.{lp, al}
 use Rattle.book.specs.Bits.{spanWord}
 use Rattle.book.specs.Memory.{padded, rows, routesOf, bookOf, remade}
-use Rattle.book.specs.Inside.{Numbered, SpansIn, EndsIn, LpNo, lightpathIn, TallyOf, AlNo, alternativeIn, heldFor, partly, Reached, Halted, HoldsLightpaths, HoldsAll}
+use Rattle.book.specs.Inside.{NumberedAt, SpansIn, EndsIn, LpNo, lightpathIn, TallyOf, AlNo, alternativeIn, heldFor, partly, Reached, Halted, HoldsLightpaths, HoldsAll}
 use Rattle.book.proofs.Tests.{and-inv}
 use Rattle.book.proofs.Stands.{length-most}
 use Rattle.book.proofs.Tallies.{tally-none, held-most, one-most, tally-more}
@@ -93,12 +93,15 @@ module _ (b : Book) (s : List ℕ) (start m : ℕ) where
   }
 
   module _ {k at : ℕ} {from to len route low high : List ℕ} (now : LightpathsTurned k at from to len route low high) (l : k < m)
-      {no : ℕ} (n : LpNo no (drop at s) (b .nodes) (b .stations) (b .spans) (b .left) (b .right)) where
-    numbered : (ns : List Bool) (sps : List Span) → b ≡ bookOf (partly ns sps [] []) → Numbered no (lp ns sps) (drop at s) (lightpathIn (drop at s)) (5 + getD (drop at s) 4 0)
+      {no i : ℕ} (n : LpNo no i (drop at s) (b .nodes) (b .stations) (b .spans) (b .left) (b .right)) where
+    numbered : (ns : List Bool) (sps : List Span) → b ≡ bookOf (partly ns sps [] []) → NumberedAt no i (lp ns sps) (drop at s) (lightpathIn (drop at s)) (5 + getD (drop at s) 4 0)
     numbered ns sps e = n .told ns sps (ap (λ (x : Book). x .nodes) e) (ap (λ (x : Book). x .stations) e) (spans-in ns sps [] [] e)
 
-    pub lightpaths-stop : (no ≡ 0 → ⊥) → (ns : List Bool) (sps : List Span) → b ≡ bookOf (partly ns sps [] []) → Halted s (each (λ x. lp ns sps) m [] s (drop start s)) no at
-    lightpaths-stop h ns sps e = record { is = turned-stop (λ x. lp ns sps) s start m (now .turned ns sps e) l (numbered ns sps e) h; within = now .within }
+    pub lp-inside : at + i ≤ length s
+    lp-inside = omega (arith, n .inside, length-drop at s, now .within)
+
+    pub lightpaths-stop : (no ≡ 0 → ⊥) → (ns : List Bool) (sps : List Span) → b ≡ bookOf (partly ns sps [] []) → Halted s (each (λ x. lp ns sps) m [] s (drop start s)) no (at + i)
+    lightpaths-stop h ns sps e = record { is = turned-stop (λ x. lp ns sps) s start m (now .turned ns sps e) l (numbered ns sps e) h ∙ ap (bad no) (drop-drop i at s); within = lp-inside }
 
     module _ (z : no ≡ 0) where
       pub lp-short : getD s (at + 4) 0 ≤ 16
@@ -189,13 +192,16 @@ module _ (b : Book) (s : List ℕ) (start m : ℕ) where
   }
 
   module _ {k at last same many : ℕ} {owner len route low high : List ℕ} (now : AlternativesTurned k at last same many owner len route low high) (l : k < m)
-      {no : ℕ} (n : AlNo no (drop at s) (b .lightpaths) last same many (b .spans) (b .from) (b .to) (b .left) (b .right)) where
+      {no i : ℕ} (n : AlNo no i (drop at s) (b .lightpaths) last same many (b .spans) (b .from) (b .to) (b .left) (b .right)) where
     numbered-al : (ns : List Bool) (sps : List Span) (lps : List Lightpath) → b ≡ bookOf (partly ns sps lps [])
-        → Numbered no (al sps (map endsOf lps) (now .before)) (drop at s) (alternativeIn (drop at s)) (4 + getD (drop at s) 3 0)
+        → NumberedAt no i (al sps (map endsOf lps) (now .before)) (drop at s) (alternativeIn (drop at s)) (4 + getD (drop at s) 3 0)
     numbered-al ns sps lps e = n .told sps (map endsOf lps) (now .before) (spans-in ns sps lps [] e) (ends-in ns sps lps [] e) (now .tally)
 
-    pub alternatives-stop : (no ≡ 0 → ⊥) → (ns : List Bool) (sps : List Span) (lps : List Lightpath) → b ≡ bookOf (partly ns sps lps []) → Halted s (each (al sps (map endsOf lps)) m [] s (drop start s)) no at
-    alternatives-stop h ns sps lps e = record { is = turned-stop (al sps (map endsOf lps)) s start m (now .turned ns sps lps e) l (numbered-al ns sps lps e) h; within = now .within }
+    pub al-inside : at + i ≤ length s
+    al-inside = omega (arith, n .inside, length-drop at s, now .within)
+
+    pub alternatives-stop : (no ≡ 0 → ⊥) → (ns : List Bool) (sps : List Span) (lps : List Lightpath) → b ≡ bookOf (partly ns sps lps []) → Halted s (each (al sps (map endsOf lps)) m [] s (drop start s)) no (at + i)
+    alternatives-stop h ns sps lps e = record { is = turned-stop (al sps (map endsOf lps)) s start m (now .turned ns sps lps e) l (numbered-al ns sps lps e) h ∙ ap (bad no) (drop-drop i at s); within = al-inside }
 
     module _ (z : no ≡ 0) where
       pub al-short : getD s (at + 3) 0 ≤ 16

@@ -14,7 +14,7 @@ use Rattle.book.specs.Reader.{Mark, isMark}
 use Rattle.book.specs.Book.{Span, Ends, Lightpath, Alternative, RouteBook, below, every, endsOf, wellFormed}
 use Rattle.book.specs.Format.{bytesOf, ndBytes, spBytes, lpBytes, alBytes, encode, Reading, good, refused, reading}
 use Rattle.book.specs.Memory.{routesOf}
-use Rattle.book.specs.Refusal.{Due, Stands, at-head, after-head, after-node, after-nodes, after-span, after-spans, after-lightpath, after-lightpaths, after-alternative, after-alternatives, after-ending, Opens, opens-HD, opens-ND, opens-SP, opens-LP, opens-AL, opens-EN, RouteDue, in-LP, in-AL, Row, row1-mark, row1-fields, row1-route, row2, row3, row4-node, row4-span, row4-lightpath, row5, row6, row7, row8, row9, row10}
+use Rattle.book.specs.Refusal.{Due, Stands, at-head, after-head, after-node, after-nodes, after-span, after-spans, after-lightpath, after-lightpaths, after-alternative, after-alternatives, after-ending, Opens, opens-HD, opens-ND, opens-SP, opens-LP, opens-AL, opens-EN, RouteDue, in-LP, in-AL, RouteThere, Row, row1-mark, row1-fields, row1-route, row2, row3, row4-node, row4-span, row4-lightpath, row5, row6, row7, row8, row9, row10}
 use Rattle.book.proofs.Tests.{and-inv, and-both}
 use Rattle.book.proofs.Parts.{parts}
 use Rattle.book.proofs.Readers.{Bytes}
@@ -115,8 +115,11 @@ module _ (x : List ℕ) where
   longer-route (in-LP p f) = in-LP (ap more p) f
   longer-route (in-AL p f) = in-AL (ap more p) f
 
+  longer-there : {d : Due} {s r v : List ℕ} {sps : List Span} {e : Ends} → RouteThere d s sps e r v → RouteThere d (s ++ x) sps e r (v ++ x)
+  longer-there {d} {s} {r} {v} {sps} {e} o = record { is-due = subst (RouteDue d (s ++ x) sps e (length r)) (append-assoc r v x) (longer-route (o .is-due)); fits = o .fits }
+
   -- so where 21 bytes are left, no record is cut, and the row is one that more bytes do not change
-  longer-row : {d : Due} {s : List ℕ} {n : ℕ} → 21 ≤ length s → Row d s n → Row d (s ++ x) n
+  longer-row : {d : Due} {s q : List ℕ} {n : ℕ} → 21 ≤ length s → Row d s n q → Row d (s ++ x) n (q ++ x)
   longer-row l (row1-mark o h) = absurd (omega arith)
   longer-row l (row1-fields o g e h) = absurd (omega (arith, opens-few o))
   longer-row l (row1-route {len = len} o f h) = absurd (omega (arith, route-near o, length-most len f))
@@ -128,9 +131,9 @@ module _ (x : List ℕ) where
   longer-row l (row4-node p f) = row4-node (ap more p) f
   longer-row l (row4-span p f) = row4-span (ap more p) f
   longer-row l (row4-lightpath p f) = row4-lightpath (ap more p) f
-  longer-row l (row5 r v o f g) = row5 r (v ++ x) (rw append-assoc at (longer-route o)) f g
+  longer-row l (row5 {d} {s} before y after v o f g) = subst (λ (q : List ℕ). Row d (s ++ x) 5 (y ∷ q)) (sym (append-assoc after v x)) (row5 before y after (v ++ x) (longer-there o) f g)
   longer-row l (row6 o f) = row6 (longer-route o) f
-  longer-row l (row7 r v o f g h) = row7 r (v ++ x) (rw append-assoc at (longer-route o)) f g h
+  longer-row l (row7 {d} {s} before y after v o f g) = subst (λ (q : List ℕ). Row d (s ++ x) 7 (y ∷ q)) (sym (append-assoc after v x)) (row7 before y after (v ++ x) (longer-there o) f g)
   longer-row l (row8 p f) = row8 (ap more p) f
   longer-row l row9 = row9
   longer-row l (row10 f) = row10 f
@@ -145,8 +148,8 @@ enough c x h l = go (reading c) refl
         let f = refused-fault c n p h e in
         let s = f .rest in
         let l2 : 21 ≤ length s = omega (arith, spent (f .stands)) in
-        let q : p + length (s ++ x) ≡ length (c ++ x) = omega (arith, f .place, length-append s x, length-append c x) in
-        e ∙ sym (fault-refused (c ++ x) n p (record { due = f .due; rest = s ++ x; stands = longer-stands x (f .stands); row = longer-row x l2 (f .row); place = q }))
+        let q : p + length (f .onward ++ x) ≡ length (c ++ x) = omega (arith, f .place, length-append (f .onward) x, length-append c x) in
+        e ∙ sym (fault-refused (c ++ x) n p (record { due = f .due; rest = s ++ x; stands = longer-stands x (f .stands); onward = f .onward ++ x; row = longer-row x l2 (f .row); place = q }))
 
 -- the first 4,096 bytes of a book, however long it is, read as the whole book does
 pub kept : (b : List ℕ) → Bytes b → reading (take 4096 b) ≡ reading b

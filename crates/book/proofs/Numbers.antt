@@ -9,7 +9,7 @@ use lib.ListN.{length, getD, take, drop, length-drop}
 use lib.Seq.{getD-take, getD-drop, drop-drop}
 use borrow.Author.Tests.{le-leb, lt-leb, eq-eqb, ne-eqb}
 use Rattle.book.specs.Reader.{got, bad, Reader, _>>=_, _>>_, give, need, fields, Mark, opened}
-use Rattle.book.specs.Inside.{tab, Numbered}
+use Rattle.book.specs.Inside.{tab, Numbered, NumberedAt}
 
 module _ {A : Type 0} {q : Reader A} {d : List ℕ} {a : A} {t : ℕ} where
   pub numbered-bad : (n : ℕ) → (n ≡ 0 → ⊥) → ((here : List ℕ) → q here d ≡ bad n here) → Numbered n q d a t
@@ -23,6 +23,23 @@ module _ {A : Type 0} {q : Reader A} {d : List ℕ} {a : A} {t : ℕ} where
 
   pub off : {r : ℕ} → Numbered r q d a t → (r ≡ 0 → ⊥) → (here : List ℕ) → q here d ≡ bad r here
   off {r} n h here = n .told here ∙ rw (ne-eqb r 0 h)
+
+-- the same where a refusal points into the record
+module _ {A : Type 0} {q : Reader A} {d : List ℕ} {a : A} {t : ℕ} where
+  pub at-first : {r : ℕ} → Numbered r q d a t → NumberedAt r 0 q d a t
+  at-first n = record { told = n .told d; whole = n .whole }
+
+  pub placed-bad : (n i : ℕ) → (n ≡ 0 → ⊥) → q d d ≡ bad n (drop i d) → NumberedAt n i q d a t
+  placed-bad n i h e = record { told = rw (ne-eqb n 0 h) e; whole = λ z. absurd (h z) }
+
+  pub placed-got : q d d ≡ got a (drop t d) → t ≤ length d → NumberedAt 0 0 q d a t
+  placed-got e l = record { told = e; whole = λ z. l }
+
+  pub placed-on : {r i : ℕ} → NumberedAt r i q d a t → r ≡ 0 → q d d ≡ got a (drop t d)
+  placed-on {r} n z = n .told ∙ rw (eq-eqb r 0 z)
+
+  pub placed-off : {r i : ℕ} → NumberedAt r i q d a t → (r ≡ 0 → ⊥) → q d d ≡ bad r (drop i d)
+  placed-off {r} n h = n .told ∙ rw (ne-eqb r 0 h)
 
 tab-same : (f g : ℕ → ℕ) (k : ℕ) → ((i : ℕ) → f i ≡ g i) → tab f k ≡ tab g k
 tab-same f g zero h = refl

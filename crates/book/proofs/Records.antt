@@ -73,8 +73,8 @@ module _ (sps : List Span) (e : Ends) where
       let a = need-got (lengthFits len) 6 here s _ q in
       let z = then-got (fields len here s) _ (a .1) in
       let o = fields-only len here s (z .2) in
-      let b = need-got (below (length sps) (z .0)) 5 here (z .1) _ (z .3) in
-      let c = need-got (routeWalks sps e (z .0)) 7 here (z .1) _ (b .1) in
+      let b = need-got (below (length sps) (z .0)) 5 _ (z .1) _ (z .3) in
+      let c = need-got (routeWalks sps e (z .0)) 7 _ (z .1) _ (b .1) in
       carried (λ r u. (s ≡ r .spans ++ u) × (len ≡ length (r .spans)) × (routeFits sps e r ≡ true)) (c .1)
       (o .0, sym (o .1), and-both (subst (λ (n : ℕ). lengthFits n ≡ true) (sym (o .1)) (a .0)) (and-both (b .0) (c .0)))
 

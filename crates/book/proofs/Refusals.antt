@@ -3,21 +3,23 @@
 use Prim.Native.Nat.{ℕ, zero, suc, _-_}
 use mathlib.Core.Path.{_≡_, refl, sym, ap, _∙_, subst}
 use mathlib.Core.List.{List, [], _∷_, _++_, map, reverse, reverseAux}
-use mathlib.Core.Bool.{Bool, true, false, cond}
+use mathlib.Core.Bool.{Bool, true, false, cond, false≢true}
 use native.Mathlib.Omega.{arith}
-use lib.ListN.{length, take, drop, length-drop, take-append-drop}
+use lib.ListN.{length, take, drop, length-drop, length-append, take-append-drop}
 use lib.Seq.{length-take-le}
 use lib.Dec.{leb}
 use borrow.Author.Tests.{leb-true, leb-false, le-leb, lt-leb}
 use Rattle.book.specs.Reader.{Got, got, bad, Reader, andThen, need, each, fields, Mark, isMark, opened}
 use Rattle.book.specs.Book.{Span, Route, Ends, Lightpath, Alternative, RouteBook, some, below, countsFit, spanEnds, lightpathEnds, lengthFits, routeWalks, follows, lightpathOf, endsOf, wellFormed}
-use Rattle.book.specs.Format.{HD, ND, SP, LP, AL, EN, recordBytes, field, hd, nd, sp, route, lp, al, atEnd, encode, book, refused, placed, reading}
-use Rattle.book.specs.Refusal.{Due, head, nodes, spans, lightpaths, alternatives, ending, past, Stands, at-head, after-head, after-node, after-nodes, after-span, after-spans, after-lightpath, after-lightpaths, after-alternative, after-alternatives, after-ending, Opens, opens-HD, opens-ND, opens-SP, opens-LP, opens-AL, opens-EN, RouteDue, in-LP, in-AL, Row, row1-mark, row1-fields, row1-route, row2, row3, row4-node, row4-span, row4-lightpath, row5, row6, row7, row8, row9, row10, Fault}
+use Rattle.book.specs.Format.{HD, ND, SP, LP, AL, EN, recordBytes, field, hd, nd, sp, fromHigh, fromStray, route, lp, al, atEnd, encode, book, refused, placed, reading}
+use Rattle.book.specs.Refusal.{Due, head, nodes, spans, lightpaths, alternatives, ending, past, Stands, at-head, after-head, after-node, after-nodes, after-span, after-spans, after-lightpath, after-lightpaths, after-alternative, after-alternatives, after-ending, Opens, opens-HD, opens-ND, opens-SP, opens-LP, opens-AL, opens-EN, RouteDue, in-LP, in-AL, RouteThere, Row, row1-mark, row1-fields, row1-route, row2, row3, row4-node, row4-span, row4-lightpath, row5, row6, row7, row8, row9, row10, Fault}
 use Rattle.book.specs.Inside.{tab}
 use Rattle.book.proofs.Readers.{Bytes, bytes-after, apart, fields-back, opened-back, opened-only, Right}
 use Rattle.book.proofs.Records.{hd-back, hd-only, nd-right, sp-right, lp-right, al-right}
 use Rattle.book.proofs.Format.{reading-back}
 use Rattle.book.proofs.Stands.{spent}
+use Rattle.book.proofs.Endings.{row-ending}
+use Rattle.book.proofs.Strays.{high-split, high-fails, high-from, stray-split, stray-fails, stray-from}
 
 -- what was got was not refused
 never : {A P : Type 0} {a : A} {t : List ℕ} {n : ℕ} {p : List ℕ} → got a t ≡ bad n p → P
@@ -133,7 +135,7 @@ route-bad (in-LP {s = s} {u} {f = f} {t} {len} p q) e = rw (opened-at LP (f ∷ 
 route-bad (in-AL {s} {u} {l = l} {len} p q) e = rw (opened-at AL (l ∷ len ∷ []) s s u p, q, e)
 
 -- each row, as the reader tests it
-row-bad : {d : Due} {s : List ℕ} {n : ℕ} → Row d s n → resume d s ≡ bad n s
+row-bad : {d : Due} {s q : List ℕ} {n : ℕ} → Row d s n q → resume d s ≡ bad n q
 row-bad (row1-mark {m = m} {k} {s} o l) = opens-bad s o (opened-is m k s s ∙ rw (lt-leb 2 (length s) l))
 row-bad (row1-fields {m = m} {k} {s} o l e f) = opens-bad s o (opened-is m k s s ∙ rw (le-leb 2 (length s) l, e, lt-leb k (length (drop 2 s)) (omega (arith, length-drop 2 s))))
 row-bad (row1-route {s = s} {u} {len = len} r e l) = route-bad r (rw (e, lt-leb len (length u) l))
@@ -142,23 +144,31 @@ row-bad (row3 {s} {t} {n} {x} {p} {a} e f) = rw (opened-at HD (n ∷ x ∷ p ∷
 row-bad (row4-node {s} {t} {x = x} e l) = rw (opened-at ND (x ∷ []) s s t e, lt-leb x 1 l)
 row-bad (row4-span {s} {t} {l = l} {r} {w} e f) = rw (opened-at SP (l ∷ r ∷ w ∷ []) s s t e, f)
 row-bad (row4-lightpath {s} {u} {f = f} {t} {len} e g) = rw (opened-at LP (f ∷ t ∷ len ∷ []) s s u e, g)
-row-bad (row5 {s = s} r v o e f) = route-bad o (rw (e, fields-back (length r) r s v refl, f))
+row-bad (row5 {s = s} {sps} before x after v o l h) =
+    let r = before ++ x ∷ after in
+    let n = length sps in
+    route-bad (o .is-due) (rw (o .fits, fields-back (length r) r s v refl, high-fails n x after h before, high-from n x after h before l))
 row-bad (row6 o e) = route-bad o (rw e)
-row-bad (row7 {s = s} r v o e f g) = route-bad o (rw (e, fields-back (length r) r s v refl, f, g))
+row-bad (row7 {s = s} {sps} before x after v o l w) =
+    let r = before ++ x ∷ after in
+    route-bad (o .is-due) (rw (o .fits, fields-back (length r) r s v refl, l, stray-fails sps w, stray-from sps w))
 row-bad (row8 {s} {u} {l = l} {len} e f) = rw (opened-at AL (l ∷ len ∷ []) s s u e, f)
 row-bad row9 = refl
 row-bad (row10 e) = rw e
 
 -- a refusal is traced back to what the book stands up to, and to the row that applies there
 abbrev Found : List ℕ → ℕ → List ℕ → Type 0
-Found b n p = (d : Due) × (s : List ℕ) × Stands b d s × Row d s n × (s ≡ p)
+Found b n p = (d : Due) × (s : List ℕ) × Stands b d s × Row d s n p
 
 module _ {b s : List ℕ} {d : Due} (st : Stands b d s) where
   -- one test: the row that applies where it fails, and what is tested next
-  tested : {A B : Type 0} (t : Bool) (m : ℕ) (g : Got A) (k : A → List ℕ → Got B) {n : ℕ} {p : List ℕ} → andThen (cond t g (bad m s)) k ≡ bad n p
-      → (t ≡ false → Row d s m) → (t ≡ true → andThen g k ≡ bad n p → Found b n p) → Found b n p
+  tested : {A B : Type 0} (t : Bool) (m : ℕ) (g : Got A) (k : A → List ℕ → Got B) {n : ℕ} {q p : List ℕ} → andThen (cond t g (bad m q)) k ≡ bad n p
+      → (t ≡ false → Row d s m q) → (t ≡ true → andThen g k ≡ bad n p → Found b n p) → Found b n p
   tested true m g k e f go = go refl e
-  tested false m g k {n} {p} e f go = let q : m ≡ n = cc in (d, s, st, subst (Row d s) q (f refl), cc)
+  tested false m g k {n} {q} {p} e f go =
+      let l : m ≡ n = cc in
+      let w : q ≡ p = cc in
+      (d, s, st, subst (λ (i : ℕ). Row d s i p) l (subst (Row d s m) w (f refl)))
 
   opened-found : {B : Type 0} {m : Mark} {j : ℕ} (k : List ℕ → List ℕ → Got B) {n : ℕ} {p : List ℕ} → Opens d m j → andThen (opened m j s s) k ≡ bad n p
       → ((v u : List ℕ) → s ≡ recordBytes m (tab (field v) j) ++ u → k v u ≡ bad n p → Found b n p) → Found b n p
@@ -170,6 +180,21 @@ module _ {b s : List ℕ} {d : Due} (st : Stands b d s) where
       tested (leb j (length u)) 1 (got (take j u) (drop j u)) k e2 (λ g. row1-fields o two f (omega (arith, leb-false j (length u) g, length-drop 2 s))) λ g e3.
       go (take j u) (drop j u) (opened-only m j s s {v = take j u} {t = drop j u} (opened-is m j s s ∙ rw (l, f, g)) .0) e3
 
+  -- the rows of a route, at the span that the reader points at
+  row-high : {sps : List Span} {e : Ends} {r v : List ℕ} → RouteThere d s sps e r v → below (length sps) r ≡ false → Row d s 5 (fromHigh (length sps) r ++ v)
+  row-high {sps} {e} {r} {v} o h =
+      let z = high-split (length sps) r h in
+      subst (λ (q : List ℕ). Row d s 5 (q ++ v)) (sym (z .from)) (row5 (z .before) (z .span) (z .after) v (subst (λ (l : List ℕ). RouteThere d s sps e l v) (z .is) o) (z .low) (z .high))
+
+  row-stray : {sps : List Span} {e : Ends} (r : List ℕ) {v : List ℕ} → RouteThere d s sps e r v → below (length sps) r ≡ true → routeWalks sps e r ≡ false
+      → Row d s 7 (fromStray sps (e .from ∷ []) (e .from) r ++ v)
+  unfolding lengthFits
+  row-stray [] o c h = absurd (false≢true (o .fits))
+  row-stray {sps} {e} (x ∷ xs) {v} o c h =
+      let z = stray-split sps (e .from ∷ []) (e .from) (e .to) x xs h in
+      subst (λ (q : List ℕ). Row d s 7 (q ++ v)) (sym (z .from))
+      (row7 (z .before) (z .span) (z .after) v (subst (λ (l : List ℕ). RouteThere d s sps e l v) (z .is) o) (subst (λ (l : List ℕ). below (length sps) l ≡ true) (z .is) c) (z .stray))
+
   route-found : {sps : List Span} {e : Ends} (len : ℕ) (u : List ℕ) {n : ℕ} {p : List ℕ} → RouteDue d s sps e len u → route sps e len s u ≡ bad n p → Found b n p
   route-found {sps = sps} {e} len u o f =
       let r = take len u in
@@ -177,10 +202,9 @@ module _ {b s : List ℕ} {d : Due} (st : Stands b d s) where
       tested (lengthFits len) 6 (got tt u) _ f (row6 o) λ a f1.
       tested (leb len (length u)) 1 (got r v) _ f1 (λ l. row1-route o a (leb-false len (length u) l)) λ l f2.
       let w : length r ≡ len = length-take-le len u (leb-true len (length u) l) in
-      let o2 : RouteDue d s sps e (length r) (r ++ v) = rw (w, take-append-drop len u) o in
-      let a2 : lengthFits (length r) ≡ true = rw w a in
-      tested (below (length sps) r) 5 (got tt v) _ f2 (row5 r v o2 a2) λ c f3.
-      tested (routeWalks sps e r) 7 (got tt v) _ f3 (row7 r v o2 a2 c) λ g. never
+      let o2 : RouteThere d s sps e r v = record { is-due = rw (w, take-append-drop len u) o; fits = rw w a } in
+      tested (below (length sps) r) 5 (got tt v) _ f2 (row-high o2) λ c f3.
+      tested (routeWalks sps e r) 7 (got tt v) _ f3 (row-stray r o2 c) λ g. never
 
   -- a record with a route, once its fixed fields are right
   routed : {A : Type 0} {sps : List Span} {e : Ends} (len : ℕ) (u : List ℕ) (f : Route → A) {n : ℕ} {p : List ℕ} → RouteDue d s sps e len u
@@ -251,7 +275,7 @@ book-found b h e =
 pub fault-refused : (b : List ℕ) (n p : ℕ) → Fault b n p → reading b ≡ refused n p
 unfolding reading
 fault-refused b n p f =
-    let e : book b b ≡ bad n (f .rest) = blind-bad (book b b) (stood (f .stands) ∙ row-bad (f .row)) in
+    let e : book b b ≡ bad n (f .onward) = blind-bad (book b b) (stood (f .stands) ∙ row-bad (f .row)) in
     rw e (ap (refused n) (omega (arith, f .place)))
 
 -- and nothing else is refused
@@ -265,7 +289,8 @@ refused-fault b n p h e = go (book b b) refl e
         let z = book-found b h (sym (book-resume b) ∙ ap blind q) in
         let l : k ≡ n = cc in
         let w : length b - length s ≡ p = cc in
-        record { due = z .0; rest = z .1; stands = z .2; row = subst (Row (z .0) (z .1)) l (z .3); place = omega (arith, spent (z .2), ap length (z .4)) }
+        let r = row-ending (z .3) in
+        record { due = z .0; rest = z .1; stands = z .2; onward = s; row = subst (λ (i : ℕ). Row (z .0) (z .1) i s) l (z .3); place = omega (arith, spent (z .2), ap length (r .is), length-append (r .front) s) }
 
 -- a book has at most one fault
 pub fault-unique : (b : List ℕ) (n m p q : ℕ) → Fault b n p → Fault b m q → (n ≡ m) × (p ≡ q)

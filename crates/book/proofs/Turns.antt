@@ -8,8 +8,8 @@ use lib.ListN.{length, drop, set, length-drop, length-map, length-reverse}
 use lib.Seq.{drop-drop}
 use Rattle.book.specs.Reader.{Got, got, bad, Reader, andThen, each}
 use Rattle.book.specs.Memory.{padded}
-use Rattle.book.specs.Inside.{Numbered}
-use Rattle.book.proofs.Numbers.{on, off}
+use Rattle.book.specs.Inside.{NumberedAt}
+use Rattle.book.proofs.Numbers.{placed-on, placed-off}
 use Rattle.book.proofs.Padded.{padded-set}
 
 -- those read before, the last first, put in front of what is read after them
@@ -41,13 +41,13 @@ module _ {A : Type 0} (r : List A → Reader A) (s : List ℕ) (start m : ℕ) w
     left = onto-none (each r m [] s (drop start s)) ∙ ap (λ (i : ℕ). onto [] (each r i [] s (drop start s))) (omega arith);
   }
 
-  module _ {k at : ℕ} {before : List A} (now : Turned k at before) (l : k < m) {no : ℕ} {a : A} {t : ℕ} (n : Numbered no (r before) (drop at s) a t) where
+  module _ {k at : ℕ} {before : List A} (now : Turned k at before) (l : k < m) {no i : ℕ} {a : A} {t : ℕ} (n : NumberedAt no i (r before) (drop at s) a t) where
     one-left : m - k ≡ suc (m - (k + 1))
     one-left = omega arith
 
-    pub turned-stop : (no ≡ 0 → ⊥) → each r m [] s (drop start s) ≡ bad no (drop at s)
+    pub turned-stop : (no ≡ 0 → ⊥) → each r m [] s (drop start s) ≡ bad no (drop i (drop at s))
     unfolding each
-    turned-stop h = now .left ∙ rw (one-left, off n h (drop at s))
+    turned-stop h = now .left ∙ rw (one-left, placed-off n h)
 
     module _ (z : no ≡ 0) where
       pub turned-fits : at + t ≤ length s
@@ -59,7 +59,7 @@ module _ {A : Type 0} (r : List A → Reader A) (s : List ℕ) (start m : ℕ) w
         few = omega arith;
         within = turned-fits;
         counted = omega (arith, now .counted);
-        left = now .left ∙ rw (one-left, on n z (drop at s), drop-drop t at s) (onto-more a before (each r (m - (k + 1)) (a ∷ before) s (drop (at + t) s)));
+        left = now .left ∙ rw (one-left, placed-on n z, drop-drop t at s) (onto-more a before (each r (m - (k + 1)) (a ∷ before) s (drop (at + t) s)));
       }
 
   pub turned-done : {k at : ℕ} {before : List A} → Turned k at before → m ≤ k → each r m [] s (drop start s) ≡ got (reverse before) (drop at s)

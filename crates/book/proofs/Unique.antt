@@ -53,7 +53,7 @@ good-or-faulty b h = go (reading b) refl
     go (refused n p) e = inr (record { number = n; place = p; fault = refused-fault b n p h e })
 
 -- the numbers of refusal, and where a place can be
-row-number : {d : Due} {s : List ℕ} {n : ℕ} → Row d s n → (1 ≤ n) × (n ≤ 10)
+row-number : {d : Due} {s q : List ℕ} {n : ℕ} → Row d s n q → (1 ≤ n) × (n ≤ 10)
 row-number (row1-mark o l) = omega arith
 row-number (row1-fields o l m k) = omega arith
 row-number (row1-route r f l) = omega arith
@@ -62,9 +62,9 @@ row-number (row3 e f) = omega arith
 row-number (row4-node e l) = omega arith
 row-number (row4-span e f) = omega arith
 row-number (row4-lightpath e f) = omega arith
-row-number (row5 r v d f b) = omega arith
+row-number (row5 before x after v o l h) = omega arith
 row-number (row6 r f) = omega arith
-row-number (row7 r v d f b w) = omega arith
+row-number (row7 before x after v o l w) = omega arith
 row-number (row8 e f) = omega arith
 row-number row9 = omega arith
 row-number (row10 e) = omega arith

@@ -1,11 +1,11 @@
 -- The route book as bytes: how it is written, docs/BOOK.md, section 4, and how it is read, section 5.
 use Prim.Native.Nat.{ℕ, _-_}
 use mathlib.Core.List.{List, [], _∷_, _++_, map}
-use mathlib.Core.Bool.{Bool, true, false, cond}
+use mathlib.Core.Bool.{Bool, true, false, cond, not, _&&_}
 use lib.ListN.{length, getD}
-use lib.Dec.{eqb, leb}
-use Rattle.book.specs.Reader.{Got, got, bad, Reader, _>>=_, _>>_, give, need, begun, each, fields, Mark, opened}
-use Rattle.book.specs.Book.{Span, Route, Ends, Lightpath, Alternative, RouteBook, some, below, countsFit, spanEnds, lightpathEnds, lengthFits, routeWalks, follows, lightpathOf, endsOf, endsAt}
+use lib.Dec.{eqb, ltb, leb}
+use Rattle.book.specs.Reader.{Got, got, bad, Reader, _>>=_, _>>_, give, need, needFrom, begun, each, fields, Mark, opened}
+use Rattle.book.specs.Book.{Span, Route, Ends, Lightpath, Alternative, RouteBook, some, among, below, countsFit, spanEnds, lightpathEnds, lengthFits, spanAt, touches, far, routeWalks, follows, lightpathOf, endsOf, endsAt}
 
 -- B19: the marks, in ASCII
 abbrev pub HD : Mark
@@ -80,13 +80,26 @@ sp n = do
   need (spanEnds n (field v 0) (field v 1)) 4
   give (record { left = field v 0; right = field v 1; limit = field v 2 })
 
+-- B30: the spans of a route from the first on that is not below n
+unfoldable pub fromHigh : ℕ → List ℕ → List ℕ
+fromHigh n [] = []
+fromHigh n (x ∷ xs) = let r = fromHigh n xs in cond (ltb x n) r (x ∷ xs)
+
+-- B30: and from the first on that the walk cannot pass, or else from the last
+unfoldable pub fromStray : List Span → List ℕ → ℕ → List ℕ → List ℕ
+fromStray sps met p [] = []
+fromStray sps met p (x ∷ []) = x ∷ []
+fromStray sps met p (x ∷ y ∷ ys) =
+    let q = far (spanAt sps x) p in
+    let r = fromStray sps (q ∷ met) q (y ∷ ys) in cond (touches (spanAt sps x) p && not (among q met)) r (x ∷ y ∷ ys)
+
 -- B30: the spans of a route: 6, then 1, then 5, then 7
 abbrev pub route : List Span → Ends → ℕ → Reader Route
 route sps e len = do
   need (lengthFits len) 6
   r ← fields len
-  need (below (length sps) r) 5
-  need (routeWalks sps e r) 7
+  needFrom (below (length sps) r) 5 (fromHigh (length sps) r)
+  needFrom (routeWalks sps e r) 7 (fromStray sps (e .from ∷ []) (e .from) r)
   give (record { spans = r })
 
 abbrev pub lp : List Bool → List Span → Reader Lightpath

@@ -2,18 +2,20 @@
 use Prim.Native.Nat.{ℕ, zero, suc, _+_, _/_, _%_, _≤_, _<_}
 use mathlib.Core.Path.{_≡_}
 use mathlib.Core.List.{List, [], _∷_, map}
-use mathlib.Core.Bool.{Bool, true, cond, not, _&&_, _||_}
+use mathlib.Core.Bool.{Bool, true, false, cond, not, _&&_, _||_}
 use lib.ListN.{length, getD, take, drop}
 use lib.Dec.{eqb, ltb, leb}
 use Rattle.book.specs.Reader.{Got, got, bad, Reader, _>>=_, _>>_, give, need, begun, each, opened}
-use Rattle.book.specs.Book.{Span, Ends, Lightpath, Alternative, RouteBook, mostForOne, mostWithAlternatives, some, every, wellFormed, spanFits, lightpathFits, spanAt, endsOf, endsAt, lightpathOf, count, different}
-use Rattle.book.specs.Format.{EN, nd, sp, route, lp, al, nothing, refused, bytesOf, lpBytes, encode}
+use Rattle.book.specs.Book.{Span, Ends, Lightpath, Alternative, RouteBook, mostForOne, mostWithAlternatives, some, below, every, wellFormed, spanFits, lightpathFits, spanAt, endsOf, endsAt, lightpathOf, count, different}
+use Rattle.book.specs.Format.{EN, nd, sp, fromHigh, route, lp, al, nothing, refused, bytesOf, lpBytes, encode}
 use Rattle.book.specs.Bits.{has, put, putIf, stationSet, spanWord}
 use Rattle.book.specs.Memory.{bookOf, shown}
 use Rattle.book.specs.declared.Book.{Book}
 use Rattle.book.specs.declared.Reply.{Reply}
 use Rattle.book.specs.declared.walk.Hop.{Hop}
 use Rattle.book.specs.declared.walk.Hop.the-variants.{To, Off}
+use Rattle.book.specs.declared.walk.Amiss.{Amiss}
+use Rattle.book.specs.declared.walk.Amiss.the-variants.{Nowhere, At}
 use Rattle.book.specs.declared.row.Words.{Words}
 use Rattle.book.specs.declared.record.Tally.{Tally}
 use Rattle.book.specs.declared.Step.{Step}
@@ -27,6 +29,11 @@ tab f (suc n) = f 0 ∷ tab (λ i. f (suc i)) n
 -- the number r of the record at the head of d, as the reader q has it: 0 with the value a and the bytes after the first t; or a refusal
 pub record Numbered {A : Type 0} (r : ℕ) (q : Reader A) (d : List ℕ) (a : A) (t : ℕ) : Type 0 where
   pub told : (here : List ℕ) → q here d ≡ cond (eqb r 0) (got a (drop t d)) (bad r here)
+  pub whole : r ≡ 0 → t ≤ length d
+
+-- the same where a refusal points i bytes into the record
+pub record NumberedAt {A : Type 0} (r i : ℕ) (q : Reader A) (d : List ℕ) (a : A) (t : ℕ) : Type 0 where
+  pub told : q d d ≡ cond (eqb r 0) (got a (drop t d)) (bad r (drop i d))
   pub whole : r ≡ 0 → t ≤ length d
 
 -- the span in the record at the head of d
@@ -47,14 +54,25 @@ farIn left right p x = cond (eqb (getD left x 0) p) (getD right x 0) (getD left 
 abbrev pub goesIn : List ℕ → List ℕ → ℕ → ℕ → ℕ → Bool
 goesIn left right met p x = (eqb (getD left x 0) p || eqb (getD right x 0) p) && not (has met (farIn left right p x))
 
-unfoldable pub walksIn : List ℕ → List ℕ → ℕ → ℕ → List ℕ → ℕ → Bool
-walksIn left right met p [] t = eqb p t
-walksIn left right met p (x ∷ xs) t =
-    let q = farIn left right p x in
-    let r = walksIn left right (put met q) q xs t in goesIn left right met p x && r
-
 abbrev pub hopOf : List ℕ → List ℕ → ℕ → ℕ → ℕ → Hop
 hopOf left right met p x = cond (goesIn left right met p x) (To (farIn left right p x)) Off
+
+-- where such a walk fails: at span j, which is next; or at the last one passed, where it is over and has not come to t
+unfoldable pub strayIn : List ℕ → List ℕ → ℕ → ℕ → ℕ → ℕ → List ℕ → ℕ → Amiss
+strayIn left right met p last j [] t = cond (eqb p t) Nowhere (At last)
+strayIn left right met p last j (x ∷ xs) t =
+    let q = farIn left right p x in
+    let r = strayIn left right (put met q) q j (j + 1) xs t in cond (goesIn left right met p x) r (At j)
+
+-- no further than the end of a route of n spans
+abbrev pub Within : ℕ → Amiss → Type 0
+Within n Nowhere = Unit {0}
+Within n (At i) = i ≤ n
+
+-- where a number of a route is too high: at the first that is not below n
+abbrev pub HighAt : ℕ → List ℕ → Amiss → Type 0
+HighAt n r Nowhere = below n r ≡ true
+HighAt n r (At i) = (below n r ≡ false) × (drop i r ≡ fromHigh n r) × (i ≤ length r)
 
 -- the spans of a book, in arrays
 pub record SpansIn (sps : List Span) (n : ℕ) (left right : List ℕ) : Type 0 where
@@ -62,11 +80,16 @@ pub record SpansIn (sps : List Span) (n : ℕ) (left right : List ℕ) : Type 0 
   pub is-left : (x : ℕ) → getD left x 0 ≡ spanAt sps x .left
   pub is-right : (x : ℕ) → getD right x 0 ≡ spanAt sps x .right
 
--- the number r of a route at the head of d
-pub record RouteNo (r : ℕ) (d : List ℕ) (len from to spans : ℕ) (left right : List ℕ) : Type 0 where
-  pub whole : r ≡ 0 → len ≤ length d
+-- what a reader does n bytes on
+abbrev pub after : {A : Type 0} → ℕ → Reader A → Reader A
+after n q here s = q here (drop n s)
+
+-- the number r of a route that begins `at` bytes into the record d, and how many bytes i into the record its fault is
+pub record RouteNo (r i : ℕ) (d : List ℕ) (at len from to spans : ℕ) (left right : List ℕ) : Type 0 where
+  pub whole : r ≡ 0 → at + len ≤ length d
   pub short : r ≡ 0 → len ≤ 16
-  pub told : (sps : List Span) → SpansIn sps spans left right → Numbered r (route sps (record { from = from; to = to }) len) d (record { spans = take len d }) len
+  pub inside : i ≤ length d
+  pub told : (sps : List Span) → SpansIn sps spans left right → NumberedAt r i (after at (route sps (record { from = from; to = to }) len)) d (record { spans = take len (drop at d) }) (at + len)
 
 -- two different stations, by the set of stations among so many nodes
 abbrev pub endsFit : ℕ → ℕ → ℕ → ℕ → Bool
@@ -76,11 +99,12 @@ endsFit nodes stations a b = ltb a nodes && (ltb b nodes && (has stations a && (
 abbrev pub lightpathIn : List ℕ → Lightpath
 lightpathIn d = record { ends = record { from = getD d 2 0; to = getD d 3 0 }; route = record { spans = take (getD d 4 0) (drop 5 d) } }
 
-pub record LpNo (r : ℕ) (d : List ℕ) (nodes stations spans : ℕ) (left right : List ℕ) : Type 0 where
+pub record LpNo (r i : ℕ) (d : List ℕ) (nodes stations spans : ℕ) (left right : List ℕ) : Type 0 where
   pub whole : r ≡ 0 → 5 + getD d 4 0 ≤ length d
   pub short : r ≡ 0 → getD d 4 0 ≤ 16
+  pub inside : i ≤ length d
   pub told : (ns : List Bool) (sps : List Span) → nodes ≡ length ns → stations ≡ stationSet ns → SpansIn sps spans left right
-      → Numbered r (lp ns sps) d (lightpathIn d) (5 + getD d 4 0)
+      → NumberedAt r i (lp ns sps) d (lightpathIn d) (5 + getD d 4 0)
 
 -- the ends of all lightpaths stand in two arrays
 pub record OwnersLow (from to : List ℕ) : Type 0 where
@@ -115,12 +139,13 @@ tallyWith lightpaths last same many k = record { lightpaths = lightpaths; last =
 abbrev pub alternativeIn : List ℕ → Alternative
 alternativeIn d = record { lightpath = getD d 2 0; route = record { spans = take (getD d 3 0) (drop 4 d) } }
 
-pub record AlNo (r : ℕ) (d : List ℕ) (lightpaths last same many spans : ℕ) (from to left right : List ℕ) : Type 0 where
+pub record AlNo (r i : ℕ) (d : List ℕ) (lightpaths last same many spans : ℕ) (from to left right : List ℕ) : Type 0 where
   pub whole : r ≡ 0 → 4 + getD d 3 0 ≤ length d
   pub short : r ≡ 0 → getD d 3 0 ≤ 16
+  pub inside : i ≤ length d
   pub risen : r ≡ 0 → last ≤ getD d 2 0
   pub told : (sps : List Span) (es : List Ends) (before : List Alternative) → SpansIn sps spans left right → EndsIn es lightpaths from to
-      → TallyOf (map lightpathOf before) last same many → Numbered r (al sps es before) d (alternativeIn d) (4 + getD d 3 0)
+      → TallyOf (map lightpathOf before) last same many → NumberedAt r i (al sps es before) d (alternativeIn d) (4 + getD d 3 0)
 
 -- the spans of a route as two words, and one span more in them
 abbrev pub wordsOf : List ℕ → Words

@@ -1,6 +1,6 @@
 -- Reading front to back: what a reader of a record is, and the pieces of which docs/BOOK.md, section 5, makes them.
 use Prim.Native.Nat.{ℕ, zero, suc}
-use mathlib.Core.List.{List, [], _∷_}
+use mathlib.Core.List.{List, [], _∷_, _++_}
 use mathlib.Core.Bool.{Bool, cond, _&&_}
 use lib.ListN.{length, getD, take, drop}
 use lib.Dec.{eqb, leb}
@@ -30,6 +30,10 @@ give a here s = got a s
 -- refused with the number n, at the record, where the test fails
 abbrev pub need : Bool → ℕ → Reader (Unit {0})
 need t n here s = cond t (got tt s) (bad n here)
+
+-- the same, at the bytes q, the last that were read
+abbrev pub needFrom : Bool → ℕ → List ℕ → Reader (Unit {0})
+needFrom t n q here s = cond t (got tt s) (bad n (q ++ s))
 
 -- a record begins here
 abbrev pub begun : {A : Type 0} → Reader A → Reader A

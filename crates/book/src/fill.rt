@@ -162,9 +162,9 @@ pub(crate) fn with_lightpaths(s: &[u8], at: usize, count: u8, b: Book) -> Filled
     let mut place = at;
     let mut k = 0;
     while k < n {
-        let no = record::lp_no(&s[place..], b.nodes, b.stations, b.spans, &b.left, &b.right);
-        if no != 0 {
-            return stopped(no, place, b);
+        let flaw = record::lp_no(&s[place..], b.nodes, b.stations, b.spans, &b.left, &b.right);
+        if flaw.no != 0 {
+            return stopped(flaw.no, place + flaw.at, b);
         }
         from[k] = s[place + 2];
         to[k] = s[place + 3];
@@ -205,9 +205,9 @@ pub(crate) fn with_alternatives(s: &[u8], at: usize, count: u8, b: Book) -> Fill
     let mut k = 0;
     while k < n {
         let d = &s[place..];
-        let no = record::al_no(d, tally, b.spans, &b.from, &b.to, &b.left, &b.right);
-        if no != 0 {
-            return stopped(no, place, b);
+        let flaw = record::al_no(d, tally, b.spans, &b.from, &b.to, &b.left, &b.right);
+        if flaw.no != 0 {
+            return stopped(flaw.no, place + flaw.at, b);
         }
         let who = s[place + 2];
         let l = s[place + 3];

@@ -1,11 +1,12 @@
 // The records of a book, one at a time. Each function whose name ends in _no is given the bytes from the record's first on, and answers with
-// the number of refusal of the record's first fault, or 0 where it has none.
+// the number of refusal of the record's first fault, or 0 where it has none; for the records that end with a route, also with its place.
 use crate::set;
 use crate::walk;
+use crate::walk::Amiss;
 ghost use mathlib.Core.Path.{_≡_};
 ghost use mathlib.Core.Bool.{cond};
 ghost use Prim.Native.Nat.{_+_, _≤_, _<_};
-ghost use lib.ListN.{getD};
+ghost use lib.ListN.{length, getD};
 ghost use lib.Dec.{eqb};
 ghost use mathlib.Core.List.{[]};
 ghost use Rattle.book.specs.Reader.{opened};
@@ -98,38 +99,49 @@ pub(crate) fn sp_no(d: &[u8], nodes: u8) -> u8
     if span_ends(nodes, d[2], d[3]) { 0 } else { 4 }
 }
 
-// A route of `len` spans between two nodes, at the head of d: its length, whether its bytes are there, its span numbers, its walk.
+// The number of a record's first fault, 0 where it has none, and how many bytes into the record the fault is.
+pub(crate) struct Flaw {
+    pub no: u8,
+    pub at: usize,
+}
+
+// A route of `len` spans between two nodes, which begins `at` bytes into the record d: its length, whether its bytes are there, its span numbers,
+// its walk. The first two are faults of the record; the others, of a span.
 fn route_no<'a>(
     d: &[u8],
+    at: usize,
     len: u8,
     from: u8,
     to: u8,
     spans: u8,
     left: &'a [u8; 128],
     right: &'a [u8; 128],
-) -> u8
-    requires { ⌜ EndsLow (now left) (now right) × (spans ≤ 128) × (from < 64) × (to < 64) ⌝ }
-    ensures { λ r. ⌜ RouteNo r (now (d .entry)) len from to spans (now (left .entry)) (now (right .entry)) ⌝ }
+) -> Flaw
+    requires { ⌜ EndsLow (now left) (now right) × (spans ≤ 128) × (from < 64) × (to < 64) × (at ≤ length (now d)) ⌝ }
+    ensures { λ r. ⌜ RouteNo (r .no) (r .at) (now (d .entry)) at len from to spans (now (left .entry)) (now (right .entry)) ⌝ }
 {
     if len < 1 {
-        return 6;
+        return Flaw { no: 6, at: 0 };
     }
     if 16 < len {
-        return 6;
+        return Flaw { no: 6, at: 0 };
     }
     let n = len as usize;
-    if d.len() < n {
-        return 1;
+    if d.len() - at < n {
+        return Flaw { no: 1, at: 0 };
     }
-    let route = &d[..n];
-    if !walk::all_below(route, spans) {
-        return 5;
+    let route = &d[at..at + n];
+    let high = walk::first_high(route, spans);
+    if let Amiss::At(j) = high {
+        let place = at + j;
+        return Flaw { no: 5, at: place };
     }
-    if walk::walk_ok(route, from, to, left, right) {
-        0
-    } else {
-        7
+    let stray = walk::first_stray(route, from, to, left, right);
+    if let Amiss::At(j) = stray {
+        let place = at + j;
+        return Flaw { no: 7, at: place };
     }
+    Flaw { no: 0, at: 0 }
 }
 
 // Whether two nodes are different stations.
@@ -159,21 +171,21 @@ pub(crate) fn lp_no<'a>(
     spans: u8,
     left: &'a [u8; 128],
     right: &'a [u8; 128],
-) -> u8
+) -> Flaw
     requires { ⌜ EndsLow (now left) (now right) × (spans ≤ 128) × (nodes ≤ 64) ⌝ }
-    ensures { λ r. ⌜ LpNo r (now (d .entry)) nodes stations spans (now (left .entry)) (now (right .entry)) ⌝ }
+    ensures { λ r. ⌜ LpNo (r .no) (r .at) (now (d .entry)) nodes stations spans (now (left .entry)) (now (right .entry)) ⌝ }
 {
     let no = opened_no(d, b'L', b'P', 3);
     if no != 0 {
-        return no;
+        return Flaw { no: no, at: 0 };
     }
     let from = d[2];
     let to = d[3];
     let len = d[4];
     if !ends_fit(nodes, stations, from, to) {
-        return 4;
+        return Flaw { no: 4, at: 0 };
     }
-    route_no(&d[5..], len, from, to, spans, left, right)
+    route_no(d, 5, len, from, to, spans, left, right)
 }
 
 // 1 where the test holds, else 0.
@@ -252,23 +264,23 @@ pub(crate) fn al_no<'a>(
     to: &'a [u8; 96],
     left: &'a [u8; 128],
     right: &'a [u8; 128],
-) -> u8
+) -> Flaw
     requires { ⌜ EndsLow (now left) (now right) × (spans ≤ 128) × OwnersLow (now from) (now to) × (tally .lightpaths ≤ 96) ⌝ }
-    ensures { λ r. ⌜ AlNo r (now (d .entry)) (tally .lightpaths) (tally .last) (tally .same) (tally .different) spans (now (from .entry)) (now (to .entry)) (now (left .entry)) (now (right .entry)) ⌝ }
+    ensures { λ r. ⌜ AlNo (r .no) (r .at) (now (d .entry)) (tally .lightpaths) (tally .last) (tally .same) (tally .different) spans (now (from .entry)) (now (to .entry)) (now (left .entry)) (now (right .entry)) ⌝ }
 {
     let no = opened_no(d, b'A', b'L', 2);
     if no != 0 {
-        return no;
+        return Flaw { no: no, at: 0 };
     }
     let k = d[2];
     let len = d[3];
     if !tally.follows(k) {
-        return 8;
+        return Flaw { no: 8, at: 0 };
     }
     let i = k as usize;
     let a = from[i];
     let b = to[i];
-    route_no(&d[4..], len, a, b, spans, left, right)
+    route_no(d, 4, len, a, b, spans, left, right)
 }
 
 pub(crate) fn en_no(d: &[u8]) -> u8

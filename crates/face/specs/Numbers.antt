@@ -2,7 +2,7 @@
 use Prim.Native.Nat.{ℕ}
 use mathlib.Core.Bool.{Bool, cond}
 use mathlib.Core.List.{List, [], _∷_, _++_}
-use lib.ListN.{length, drop}
+use lib.ListN.{length, drop, set}
 use lib.Dec.{leb}
 use Rattle.book.specs.Format.{Reading}
 use Rattle.book.specs.Memory.{shown}
@@ -16,6 +16,8 @@ use Rattle.judgement.specs.Answers.{judgedNumbers, scoredNumbers, askedNumbers}
 use Rattle.judgement.specs.declared.Verdict.the-variants.{Over, Split, Cut, Okay}
 use Rattle.judgement.specs.declared.Judged.{Judged}
 use Rattle.judgement.specs.declared.Judged.the-variants as judged
+use Rattle.judgement.specs.declared.Contracted.{Contracted}
+use Rattle.judgement.specs.declared.Contracted.the-variants as contracted
 use Rattle.judgement.specs.declared.Scored.{Scored}
 use Rattle.judgement.specs.declared.Scored.the-variants as scored
 use Rattle.judgement.specs.declared.Asked.{Asked}
@@ -57,6 +59,11 @@ abbrev pub judgedRow : Judged → List ℕ
 judgedRow a =
     let n = judgedNumbers a in
     judgedKind a ∷ n .number ∷ n .place ∷ n .span ∷ n .load ∷ n .limit ∷ n .side ∷ 0 ∷ []
+
+-- F11: the same of the second engine, and how many merges it made
+abbrev pub contractedRow : Contracted → List ℕ
+contractedRow (contracted.Told v n) = set (judgedRow (judged.Told v)) 7 n
+contractedRow (contracted.Refused k p) = refusedRow k p
 
 -- F7: the score
 abbrev pub scoredKind : Scored → ℕ

@@ -8,8 +8,9 @@ ghost use lib.ListN.{length};
 ghost use Rattle.book.specs.Format.{reading};
 ghost use Rattle.book.specs.Writing.{chosenOf, writing, writtenOf, buffer};
 ghost use Rattle.judgement.specs.Answers.{judgedOf, scoredOf, askedOf};
+ghost use Rattle.judgement.specs.Contraction.{contractedOf};
 ghost use Rattle.search.specs.Answers.{searchedOf};
-ghost use Rattle.face.specs.Numbers.{roomy, stored, readRow, judgedRow, scoredRow, askedRow, searchedRow, writtenRow};
+ghost use Rattle.face.specs.Numbers.{roomy, stored, readRow, judgedRow, contractedRow, scoredRow, askedRow, searchedRow, writtenRow};
 
 // Reads a book.
 #[no_mangle]
@@ -30,6 +31,16 @@ pub extern "C" fn gristvalley_judge(s: &[u8], n: u32, out: &mut [u64]) -> bool
 {
     let answer = judgement::judge(s, n);
     let row = numbers::judged_row(answer);
+    store(out, row)
+}
+
+// Judges choice n of a book by contraction.
+#[no_mangle]
+pub extern "C" fn gristvalley_contract(s: &[u8], n: u32, out: &mut [u64]) -> bool
+    ensures { λ r. ⌜ (r ≡ roomy (now (out .entry))) × (now (out .exit) ≡ stored (contractedRow (contractedOf (chosenOf (reading (now (s .entry))) n))) (now (out .entry))) ⌝ }
+{
+    let answer = judgement::contract(s, n);
+    let row = numbers::contracted_row(answer);
     store(out, row)
 }
 

@@ -3,6 +3,7 @@ use book::Answer;
 use book::Book;
 use book::write::Written;
 use judgement::Asked;
+use judgement::Contracted;
 use judgement::Judged;
 use judgement::Scored;
 use judgement::Verdict;
@@ -11,7 +12,7 @@ use search::Searched;
 ghost use mathlib.Core.Path.{_≡_};
 ghost use Rattle.judgement.specs.declared.Judged.the-variants as judged;
 ghost use Rattle.search.specs.declared.Searched.the-variants as searched;
-ghost use Rattle.face.specs.Numbers.{roomy, stored, refusedRow, replyRow, judgedRow, scoredRow, askedRow, searchedRow, writtenRow};
+ghost use Rattle.face.specs.Numbers.{roomy, stored, refusedRow, replyRow, judgedRow, contractedRow, scoredRow, askedRow, searchedRow, writtenRow};
 
 // Stores the numbers at the front of the slice, and tells whether there was room; where there is none, nothing is stored.
 pub(crate) fn store(out: &mut [u64], told: [u64; 8]) -> bool
@@ -73,6 +74,20 @@ pub(crate) fn judged_row(answer: Judged) -> [u64; 8]
     match answer {
         Judged::Told(v) => verdict_row(v),
         Judged::Refused(no, place) => refused_row(no, place),
+    }
+}
+
+// The answer of `contract`.
+pub(crate) fn contracted_row(answer: Contracted) -> [u64; 8]
+    ensures { λ r. ⌜ r ≡ contractedRow answer ⌝ }
+{
+    match answer {
+        Contracted::Told(v, merges) => {
+            let mut row = verdict_row(v);
+            row[7] = merges as u64;
+            row
+        }
+        Contracted::Refused(no, place) => refused_row(no, place),
     }
 }
 

@@ -16,7 +16,8 @@ use Rattle.book.specs.Writing.{chosenOf}
 use Rattle.book.proofs.Cards.{E}
 use Rattle.judgement.specs.Network.{brought, grown, swept, settled, sideOf}
 use Rattle.judgement.specs.Judgement.{sum, load, firstOf}
-use Rattle.judgement.specs.Answers.{judgedOf, scoredOf, askedOf}
+use Rattle.judgement.specs.Withdrawn.{noneOf}
+use Rattle.judgement.specs.Answers.{judgedOf, scoredOf, askedOf, askedSetOf}
 use Rattle.judgement.specs.declared.Verdict.the-variants.{Over, Split, Cut, Okay}
 use Rattle.judgement.specs.declared.Judged.the-variants as judged
 use Rattle.judgement.specs.declared.Scored.the-variants as scored
@@ -76,3 +77,10 @@ pub asks : (askedOf (chosenOf (reading E) 0) 0 ≡ asked.Told 15 true) × (asked
     × (askedOf (chosenOf (reading E) 0) 5 ≡ asked.Refused 13 0) × (askedOf (chosenOf (reading E) 2) 5 ≡ asked.Refused 12 0) × (askedOf (chosenOf (reading []) 2) 5 ≡ asked.Refused 1 0)
 unfolding reading book each opened below some count different walks lengthFits spanEnds lightpathEnds follows bit has put stationsInto padded movableFrom product digits digitFor alternativesOf rerouted brought grown swept settled sideOf sum firstOf trailingZeros
 asks = (refl, refl, refl, refl, refl)
+
+-- the question about sets in choice 1: no span, spans 0 and 3, spans 0 and 1; a number that no span has, in the first word and in the second; and no such choice
+pub sets : (askedSetOf (chosenOf (reading E) 1) 0 0 ≡ asked.Told 15 true) × (askedSetOf (chosenOf (reading E) 1) 9 0 ≡ asked.Told 1 false)
+    × (askedSetOf (chosenOf (reading E) 1) 3 0 ≡ asked.Told 13 false) × (askedSetOf (chosenOf (reading E) 1) 33 0 ≡ asked.Refused 13 0)
+    × (askedSetOf (chosenOf (reading E) 1) 0 1 ≡ asked.Refused 13 0) × (askedSetOf (chosenOf (reading E) 2) 0 1 ≡ asked.Refused 12 0)
+unfolding reading book each opened below some count different walks lengthFits spanEnds lightpathEnds follows bit has put stationsInto padded movableFrom product digits digitFor alternativesOf rerouted brought grown swept settled sideOf sum firstOf trailingZeros noneOf
+sets = (refl, refl, refl, refl, refl, refl)

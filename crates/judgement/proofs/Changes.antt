@@ -20,7 +20,7 @@ module _ (m m′ : RouteBook) (nodes : m .nodes ≡ m′ .nodes) (ends : map end
   ends-same : (k : ℕ) → lightpathAt (m .lightpaths) k .ends ≡ lightpathAt (m′ .lightpaths) k .ends
   ends-same k = sym (List·getD-map endsOf (m .lightpaths) k (lightpathAt [] 0)) ∙ ap (λ (es : List Ends). endsAt es k) ends ∙ List·getD-map endsOf (m′ .lightpaths) k (lightpathAt [] 0)
 
-  alike : Alike (network m) (network m′) allUp allUp
+  pub alike : Alike (network m) (network m′) allUp allUp
   alike = record {
     count = sym (length-map (m .lightpaths) endsOf) ∙ ap length ends ∙ length-map (m′ .lightpaths) endsOf;
     from = λ k l. ap (λ (e : Ends). e .from) (ends-same k);

@@ -13,6 +13,7 @@ use Rattle.book.proofs.Bounds.{station-lt}
 use Rattle.judgement.specs.Network.{Network, Joined, start, more}
 use Rattle.judgement.specs.Judgement.{rides, network, without, allUp, stations, lowest, side}
 use Rattle.judgement.specs.Cuts.{AllJoined, Survives, Divides, Crosses, Carries, CutForm}
+use Rattle.judgement.proofs.Tests.{bool-iff}
 use Rattle.judgement.proofs.Stations.{lowest-has}
 use Rattle.judgement.proofs.First.{First, there, nowhere, first}
 use Rattle.judgement.proofs.Whole.{side-has}
@@ -31,11 +32,6 @@ chain-crosses net up A s i (more {x} {y} j l) ne = go (Bool-discrete (A s) (A x)
         → (k : ℕ) × (k < net .count) × (up k ≡ true) × (A (net .from k) ≡ A (net .to k) → ⊥)
     go (no n) ih = ih n
     go (yes e) ih = (l .number, l .below, l .is-up, (λ h. ne (e ∙ runs-same A (l .runs) h)))
-
-bool-iff : (a b : Bool) → (a ≡ true → b ≡ true) → (b ≡ true → a ≡ true) → a ≡ b
-bool-iff true b f g = sym (f refl)
-bool-iff false true f g = g refl
-bool-iff false false f g = refl
 
 module _ (m : RouteBook) (good : wellFormed m ≡ true) where
   -- no lightpath that is up leaves the side of the lowest station

@@ -19,7 +19,7 @@ use Rattle.judgement.proofs.Alike.{side-alike}
 
 module _ (m : RouteBook) where
   -- which lightpaths are up decides the side of s
-  alike : (up up′ : ℕ → Bool) → ((k : ℕ) → k < length (m .lightpaths) → up k ≡ up′ k) → (s : ℕ)
+  pub alike : (up up′ : ℕ → Bool) → ((k : ℕ) → k < length (m .lightpaths) → up k ≡ up′ k) → (s : ℕ)
       → sideOf (netOf (bookOf m .lightpaths) (bookOf m .from) (bookOf m .to)) up 64 s ≡ sideOf (network m) up′ 64 s
   alike up up′ same = side-alike (netOf (bookOf m .lightpaths) (bookOf m .from) (bookOf m .to)) (network m) up up′ (record {
     count = refl;

@@ -1,4 +1,4 @@
--- THE SIDE of a node is the set of the nodes that are joined to it: a swept adds only what is joined, and a set that no swept enlarges holds, with one end
+-- THE SIDE of a node is the set of the nodes that are joined to it: a sweep adds only what is joined, and a set that no sweep enlarges holds, with one end
 -- of a lightpath that is up, the other. Whatever has grown so far is the one side, however it was grown.
 use Prim.Native.Nat.{ℕ, zero, suc, _+_, _^_, _<_, _≤_}
 use mathlib.Core.Path.{_≡_, refl, sym, ap, _∙_, subst}
@@ -15,18 +15,7 @@ use Rattle.book.specs.Bits.{has, bit, put}
 use Rattle.book.proofs.Bits.{bit-iff, bit-ext, has-true, true-has, bit-one, bit-other, put-same, put-keeps, put-inv, put-lt, put-le}
 use Rattle.book.proofs.Tests.{and-inv}
 use Rattle.judgement.specs.Network.{Network, Link, Joined, start, more, brought, grown, swept, settled, sideOf}
-use Rattle.judgement.specs.Inside.{Grows, none, by}
-
-or-l : {a : Bool} (b : Bool) → a ≡ true → (a || b) ≡ true
-or-l b e = ap (λ (q : Bool). q || b) e
-
-or-r : (a : Bool) {b : Bool} → b ≡ true → (a || b) ≡ true
-or-r true e = refl
-or-r false e = e
-
-or-inv : (a b : Bool) → (a || b) ≡ true → (a ≡ true) ⊎ (b ≡ true)
-or-inv true b e = inl refl
-or-inv false b e = inr e
+use Rattle.judgement.proofs.Tests.{or-l, or-r, or-inv}
 
 module _ (net : Network) (up : ℕ → Bool) where
   grow-le : (k m : ℕ) → m ≤ grown net up k m
@@ -37,16 +26,12 @@ module _ (net : Network) (up : ℕ → Bool) where
       go true = le-trans (put-le m (net .from k)) (put-le _ _)
       go false = le-refl m
 
-  pub sweep-step : (k m : ℕ) → swept net up (k + 1) m ≡ brought (up k) (net .from k) (net .to k) (swept net up k m)
-  unfolding swept grown
-  sweep-step k m = ap (λ (n : ℕ). swept net up n m) (add-one k)
-
   sweep-le : (k m : ℕ) → m ≤ swept net up k m
   unfolding swept
   sweep-le zero m = le-refl m
   sweep-le (suc k) m = le-trans (sweep-le k m) (grow-le k _)
 
-  -- a set that a whole swept leaves alone is left alone by each part of it
+  -- a set that a whole sweep leaves alone is left alone by each part of it
   part-same : (n m : ℕ) → swept net up n m ≡ m → (k : ℕ) → k < n → grown net up k m ≡ m
   unfolding swept
   part-same zero m e k l = absurd (omega arith)
@@ -87,8 +72,8 @@ module _ (net : Network) (up : ℕ → Bool) where
   joined-in m s cl hs i start = hs
   joined-in m s cl hs i (more {x} {y} j l) = cl x y l (joined-in m s cl hs x j)
 
-  -- growing adds only what is joined
-  abbrev pub Only : ℕ → ℕ → Type 0
+  -- a sweep adds only what is joined
+  abbrev Only : ℕ → ℕ → Type 0
   Only s m = (i : ℕ) → bit m i ≡ 1 → Joined net up s i
 
   grow-only : (s k m : ℕ) → k < net .count → Only s m → Only s (grown net up k m)
@@ -113,23 +98,22 @@ module _ (net : Network) (up : ℕ → Bool) where
       go true e h = let u = and-inv {a = up k} e in out (ends (u .0) (or-inv _ _ (u .1))) (put-inv (put m a) b i h)
       go false e h = o i h
 
-  grow-kept : (k m i : ℕ) → bit m i ≡ 1 → bit (grown net up k m) i ≡ 1
-  unfolding grown
-  grow-kept k m i h = go (up k && (has m (net .from k) || has m (net .to k)))
-    where
-      go : (t : Bool) → bit (cond t (put (put m (net .from k)) (net .to k)) m) i ≡ 1
-      go true = put-keeps _ _ i (put-keeps m (net .from k) i h)
-      go false = h
-
-  -- a sweep is one way to grow
-  sweep-grows : (n m : ℕ) → n ≤ net .count → Grows net up m (swept net up n m)
+  sweep-only : (s n m : ℕ) → n ≤ net .count → Only s m → Only s (swept net up n m)
   unfolding swept
-  sweep-grows zero m l = none
-  sweep-grows (suc n) m l = by (sweep-grows n m (omega arith)) n l
+  sweep-only s zero m l o = o
+  sweep-only s (suc n) m l o = grow-only s n _ l (sweep-only s n m (omega arith) o)
 
-  grows-le : {m r : ℕ} → Grows net up m r → m ≤ r
-  grows-le none = le-refl _
-  grows-le (by g k l) = le-trans (grows-le g) (grow-le k _)
+  sweep-kept : (n m i : ℕ) → bit m i ≡ 1 → bit (swept net up n m) i ≡ 1
+  unfolding swept grown
+  sweep-kept zero m i b = b
+  sweep-kept (suc n) m i b = go (up n && (has x (net .from n) || has x (net .to n))) (sweep-kept n m i b)
+    where
+      x : ℕ
+      x = swept net up n m
+
+      go : (t : Bool) → bit x i ≡ 1 → bit (cond t (put (put x (net .from n)) (net .to n)) x) i ≡ 1
+      go true h = put-keeps _ _ i (put-keeps x (net .from n) i h)
+      go false h = h
 
   -- what holds of a set that grows from s: it is below the width, holds s, and only what is joined to s
   pub record Growing (W s r : ℕ) : Type 0 where
@@ -147,6 +131,11 @@ module _ (net : Network) (up : ℕ → Bool) where
         go true = put-lt W _ _ (put-lt W m _ h (ends k l .0)) (ends k l .1)
         go false = h
 
+    sweep-lt : (n m : ℕ) → n ≤ net .count → m < 2 ^ W → swept net up n m < 2 ^ W
+    unfolding swept
+    sweep-lt zero m l h = h
+    sweep-lt (suc n) m l h = grow-lt n _ l (sweep-lt n m (omega arith) h)
+
     pub growing-start : (s : ℕ) → s < W → Growing W s (2 ^ s)
     growing-start s l = record {
       low = pow-lt l;
@@ -154,53 +143,44 @@ module _ (net : Network) (up : ℕ → Bool) where
       kept = bit-one s;
     }
 
-    growing-on : (s : ℕ) {m r : ℕ} → Growing W s m → Grows net up m r → Growing W s r
-    growing-on s g none = g
-    growing-on s g (by {r} h k l) =
-        let now = growing-on s g h in
-        record { low = grow-lt k r l (now .low); only = grow-only s k r l (now .only); kept = grow-kept k r s (now .kept) }
+    growing-sweep : (s m : ℕ) → Growing W s m → Growing W s (swept net up (net .count) m)
+    growing-sweep s m g = record {
+      low = sweep-lt (net .count) m (le-refl _) (g .low);
+      only = sweep-only s (net .count) m (le-refl _) (g .only);
+      kept = sweep-kept (net .count) m s (g .kept);
+    }
 
-    pub growing-sweep : (s m : ℕ) → Growing W s m → Growing W s (swept net up (net .count) m)
-    growing-sweep s m g = growing-on s g (sweep-grows (net .count) m (le-refl _))
-
-    -- each swept that adds makes the number larger
+    -- each sweep that adds makes the number larger
     sweep-more : (m : ℕ) → (swept net up (net .count) m ≡ m → ⊥) → m < swept net up (net .count) m
     sweep-more m ne = omega (arith, sweep-le (net .count) m)
 
-    -- one turn: a sweep that adds, and then whatever grows from that
-    pub turn-more : (m : ℕ) {r : ℕ} → (swept net up (net .count) m ≡ m → ⊥) → Grows net up (swept net up (net .count) m) r → m < r
-    turn-more m ne g = omega (arith, sweep-more m ne, grows-le g)
+    -- a closed set that has grown holds just what is joined to s; there is one such set
+    grown-joined : (s r : ℕ) → Growing W s r → Closed r → (i : ℕ) → (bit r i ≡ 1) ↔ Joined net up s i
+    grown-joined s r g cl i = (g .only i, joined-in r s cl (g .kept) i)
 
-    pub turn-on : (s m : ℕ) {r : ℕ} → Growing W s m → Grows net up (swept net up (net .count) m) r → Growing W s r
-    turn-on s m g h = growing-on s (growing-sweep s m g) h
-
-    -- a set that has grown to the end holds just what is joined to s; there is one such set
-    pub grown-joined : (s r : ℕ) → Growing W s r → swept net up (net .count) r ≡ r → (i : ℕ) → (bit r i ≡ 1) ↔ Joined net up s i
-    grown-joined s r g e i = (g .only i, joined-in r s (same-closed r e) (g .kept) i)
-
-    pub grown-once : (s r r′ : ℕ) → Growing W s r → swept net up (net .count) r ≡ r → Growing W s r′ → swept net up (net .count) r′ ≡ r′ → r ≡ r′
-    grown-once s r r′ g e g′ e′ =
+    grown-once : (s r r′ : ℕ) → Growing W s r → Closed r → Growing W s r′ → Closed r′ → r ≡ r′
+    grown-once s r r′ g cl g′ cl′ =
         bit-ext W r r′ (g .low) (g′ .low) (λ i l.
-        let u = grown-joined s r g e i in
-        let v = grown-joined s r′ g′ e′ i in
+        let u = grown-joined s r g cl i in
+        let v = grown-joined s r′ g′ cl′ i in
         bit-iff r r′ i (λ h. v .1 (u .0 h)) (λ h. u .1 (v .0 h)))
 
-    settling : (s d m : ℕ) → 2 ^ W ≤ d + m → Growing W s m → Growing W s (settled net up d m) × (swept net up (net .count) (settled net up d m) ≡ settled net up d m)
+    settling : (s d m : ℕ) → 2 ^ W ≤ d + m → Growing W s m → Growing W s (settled net up d m) × Closed (settled net up d m)
     unfolding settled
     settling s zero m l g = absurd (omega (arith, g .low))
     settling s (suc d) m l g =
         go (λ l′. settling s d (swept net up (net .count) m) l′ (growing-sweep s m g)) (eqb (swept net up (net .count) m) m) refl
       where
         Done : ℕ → Type 0
-        Done r = Growing W s r × (swept net up (net .count) r ≡ r)
+        Done r = Growing W s r × Closed r
 
         go : (2 ^ W ≤ d + swept net up (net .count) m → Done (settled net up d (swept net up (net .count) m))) → (t : Bool)
             → eqb (swept net up (net .count) m) m ≡ t → Done (cond t m (settled net up d (swept net up (net .count) m)))
-        go ih true e = (g, eqb-true _ _ e)
+        go ih true e = (g, same-closed m (eqb-true _ _ e))
         go ih false e = ih (omega (arith, sweep-more m (eqb-false _ _ e)))
 
     -- THE LAW: the computed side holds just the nodes that are joined to s
-    pub side-grown : (s : ℕ) → s < W → Growing W s (sideOf net up W s) × (swept net up (net .count) (sideOf net up W s) ≡ sideOf net up W s)
+    pub side-grown : (s : ℕ) → s < W → Growing W s (sideOf net up W s) × Closed (sideOf net up W s)
     unfolding sideOf
     side-grown s l = settling s (2 ^ W) (2 ^ s) (omega arith) (growing-start s l)
 
@@ -211,6 +191,6 @@ module _ (net : Network) (up : ℕ → Bool) where
     pub in-side : (s r i : ℕ) → s < W → Growing W s r → has r i ≡ true → has (sideOf net up W s) i ≡ true
     in-side s r i l g h = has-true _ i (side-joined s l i .1 (g .only i (true-has r i h)))
 
-    -- whatever has grown to the end is that side
-    pub side-is : (s r : ℕ) → s < W → Growing W s r → swept net up (net .count) r ≡ r → r ≡ sideOf net up W s
-    side-is s r l g e = let h = side-grown s l in grown-once s r _ g e (h .0) (h .1)
+    -- and if it is closed it is that side
+    pub side-is : (s r : ℕ) → s < W → Growing W s r → Closed r → r ≡ sideOf net up W s
+    side-is s r l g cl = let h = side-grown s l in grown-once s r _ g cl (h .0) (h .1)

@@ -1,6 +1,9 @@
 -- The laws of crate judgement; docs/PROMISES.md lists the theorems among them.
+pub mod Tests
 pub mod Sets
 pub mod Joins
+pub mod Rows
+pub mod Worklist
 pub mod Alike
 pub mod Stations
 pub mod Whole
@@ -21,4 +24,23 @@ pub mod Arrays
 pub mod Apart
 pub mod Opened
 pub mod Demand
+pub mod Withdrawn
+pub mod Booked
+pub mod Answered
+pub mod Labels
+pub mod Pieces
+pub mod Lowest
+pub mod Rings
+pub mod FirstWays
+pub mod Rounds
+pub mod Distinct
+pub mod Merges
+pub mod Contracts
+pub mod Fewer
+pub mod Merging
+pub mod Trails
+pub mod Carried
+pub mod LabelArrays
+pub mod Engine
+pub mod Over
 pub mod Cards

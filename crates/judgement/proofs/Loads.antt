@@ -102,7 +102,7 @@ module _ (m : RouteBook) (fits : wellFormed m ≡ true) where
     abbrev path : Lightpath
     path = lightpathAt (m .lightpaths) k
 
-    route-fits : routeFits (m .spans) (path .ends) (path .route) ≡ true
+    pub route-fits : routeFits (m .spans) (path .ends) (path .route) ≡ true
     route-fits = and-inv {a = lightpathEnds (m .nodes) (path .ends)} (lightpath-fits m fits k l) .1
 
     pub route-short : length (path .route .spans) ≤ 16

@@ -1,10 +1,10 @@
 -- Sums over the numbers below n: one more, term by term, bounds, and two sums in either order.
 -- A count of lightpaths or of spans is such a sum of noughts and ones, so every law of loads and scores is one of these.
 use Prim.Native.Nat.{ℕ, zero, suc, _+_, _*_, _<_, _≤_, zero-le}
-use mathlib.Core.Path.{_≡_, refl, sym, ap, _∙_}
+use mathlib.Core.Path.{_≡_, refl, sym, ap, _∙_, subst}
 use mathlib.Core.List.{List, [], _∷_}
 use mathlib.Core.Bool.{Bool, true, false, _||_}
-use native.Mathlib.Nat.{le-refl, mul-suc}
+use native.Mathlib.Nat.{le-refl, mul-suc, suc-mul}
 use native.Mathlib.Numerals.{add-one}
 use native.Mathlib.Decide.{decLt, ℕ-discrete}
 use native.Mathlib.Omega.{arith}
@@ -41,11 +41,26 @@ unfolding sum
 none-sum f zero e k l = absurd (omega arith)
 none-sum f (suc n) e k l = elim (ℕ-discrete k n) [ yes q ↦ ap f q ∙ omega arith | no q ↦ none-sum f n (omega arith) k (omega arith) ]
 
--- greater terms, more terms, and terms of at most w
+-- greater terms, more terms, and terms of at most w; one term greater makes the sum greater
 pub sum-le : (f g : ℕ → ℕ) (n : ℕ) → ((k : ℕ) → k < n → f k ≤ g k) → sum f n ≤ sum g n
 unfolding sum
 sum-le f g zero h = zero-le
 sum-le f g (suc n) h = omega (arith, sum-le f g n (λ k l. h k (omega arith)), h n (le-refl (suc n)))
+
+pub sum-less : (f g : ℕ → ℕ) (n i : ℕ) → ((k : ℕ) → k < n → f k ≤ g k) → i < n → f i < g i → sum f n < sum g n
+unfolding sum
+sum-less f g zero i h l q = absurd (omega arith)
+sum-less f g (suc n) i h l q = go (λ z. sum-less f g n i (λ k b. h k (omega arith)) z q) (ℕ-discrete i n)
+  where
+    go : (i < n → sum f n < sum g n) → Dec (i ≡ n) → sum f n + f n < sum g n + g n
+    go ih (yes y) = let r : f n < g n = subst (λ (k : ℕ). f k < g k) y q in omega (arith, sum-le f g n (λ k b. h k (omega arith)))
+    go ih (no z) = omega (arith, ih (omega arith), h n (omega arith))
+
+-- the sum of the first n numbers
+pub sum-numbers : (n : ℕ) → sum (λ i. i) n + n ≤ n * n
+unfolding sum
+sum-numbers zero = zero-le
+sum-numbers (suc n) = omega (arith, sum-numbers n, suc-mul n (suc n), mul-suc n n)
 
 pub sum-longer : (f : ℕ → ℕ) (k n : ℕ) → k ≤ n → sum f k ≤ sum f n
 unfolding sum

@@ -5,6 +5,7 @@ use lib.Dec.{ltb}
 use lib.ListN.{length}
 use Rattle.book.specs.Format.{Reading, good, refused}
 use Rattle.judgement.specs.Judgement.{verdict, scoreF, scoreFc, side, without, whole}
+use Rattle.judgement.specs.Withdrawn.{upWith, inWords, beyond}
 use Rattle.judgement.specs.declared.Verdict.the-variants.{Over, Split, Cut, Okay}
 use Rattle.judgement.specs.declared.Judged.{Judged}
 use Rattle.judgement.specs.declared.Judged.the-variants as judged
@@ -27,6 +28,13 @@ scoredOf (refused k p) = scored.Refused k p
 abbrev pub askedOf : Reading → ℕ → Asked
 askedOf (good m) x = cond (ltb x (length (m .spans))) (asked.Told (side m (without m x)) (whole m (without m x))) (asked.Refused 13 0)
 askedOf (refused k p) x = asked.Refused k p
+
+-- J21, J29, J30: the question about a set of spans, which is two words: 13 where it holds a number that no span has
+abbrev pub askedSetOf : Reading → ℕ → ℕ → Asked
+askedSetOf (good m) low high =
+    let up = upWith m (inWords low high) in
+    cond (beyond (inWords low high) (length (m .spans))) (asked.Refused 13 0) (asked.Told (side m up) (whole m up))
+askedSetOf (refused k p) low high = asked.Refused k p
 
 -- J25: the numbers of an answer, for each of its cases: the number and place of a refusal, and what it carries; whatever it does not carry is 0
 pub record Numbers : Type 0 where

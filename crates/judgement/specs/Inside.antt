@@ -1,15 +1,19 @@
 -- What the private functions of the crate tell each other: a network held in arrays.
-use Prim.Native.Nat.{ℕ, zero, suc, _+_, _<_, _≤_}
+use Prim.Native.Nat.{ℕ, zero, suc, _+_, _^_, _<_, _≤_}
 use mathlib.Core.Path.{_≡_}
 use mathlib.Core.List.{List}
-use mathlib.Core.Bool.{Bool, false, not, _&&_}
+use mathlib.Core.Logic.{_⊎_}
+use mathlib.Core.Bool.{Bool, false, cond, not, _&&_}
+use lib.Bits.{bitAnd, bitOr, bitXor}
+use lib.Count.{trailingZeros}
 use lib.ListN.{length, getD, set, replicate}
-use Rattle.book.specs.Bits.{bit, has}
+use Rattle.book.specs.Bits.{bit, has, put}
 use lib.Dec.{eqb}
 use Rattle.book.specs.declared.Book.{Book}
+use Rattle.judgement.specs.declared.side.Growth.{Growth}
 use Rattle.judgement.specs.declared.kind.Parted.{Parted}
 use Rattle.judgement.specs.declared.kind.Parted.the-variants.{At}
-use Rattle.judgement.specs.Network.{Network, grown, sideOf}
+use Rattle.judgement.specs.Network.{Network, Link, sideOf}
 use Rattle.judgement.specs.Judgement.{sum, one}
 
 -- the network of n lightpaths whose ends stand in two arrays, and which of them are up by a third
@@ -27,10 +31,29 @@ pub record Fits (n : ℕ) (from to : List ℕ) : Type 0 where
   pub from-low : (k : ℕ) → getD from k 0 < 64
   pub to-low : (k : ℕ) → getD to k 0 < 64
 
--- what becomes of the set m by some lightpaths, one after the other in any order
-pub data Grows (net : Network) (up : ℕ → Bool) (m : ℕ) : ℕ → Type 0 where
-  none : Grows net up m m
-  by : {r : ℕ} → Grows net up m r → (k : ℕ) → k < net .count → Grows net up m (grown net up k r)
+-- rows of sets with both ends of a lightpath put into the row of each, where it is up
+abbrev pub endsInto : ℕ → ℕ → ℕ → List ℕ → List ℕ
+endsInto a b x rows = set rows x (put (put (getD rows x 0) a) b)
+
+abbrev pub noted : Bool → ℕ → ℕ → List ℕ → List ℕ
+noted u a b rows = cond u (endsInto a b b (endsInto a b a rows)) rows
+
+-- row x of W has the other ends of the lightpaths that are up and end at x, and at most x besides
+pub record Leads (W : ℕ) (net : Network) (up : ℕ → Bool) (rows : List ℕ) : Type 0 where
+  pub long : length rows ≡ W
+  pub low : (x : ℕ) → getD rows x 0 < 2 ^ W
+  pub only : (x y : ℕ) → bit (getD rows x 0) y ≡ 1 → (x ≡ y) ⊎ Link net up x y
+  pub all : (x y : ℕ) → Link net up x y → bit (getD rows x 0) y ≡ 1
+
+-- the set r of which the part q has been looked at; the node that is looked at next, the lowest of those left; and with what that leads to put in
+abbrev pub growth : ℕ → ℕ → Growth
+growth r q = record { side = record { mask = r }; seen = record { mask = q } }
+
+abbrev pub nextIn : Growth → ℕ
+nextIn g = trailingZeros 64 (bitXor (g .side .mask) (g .seen .mask))
+
+abbrev pub tookIn : Growth → List ℕ → Growth
+tookIn g rows = growth (bitOr (g .side .mask) (getD rows (nextIn g) 0)) (put (g .seen .mask) (nextIn g))
 
 -- the first n of 96 places by a test, and false beyond
 unfoldable pub upTable : (ℕ → Bool) → ℕ → List Bool
@@ -40,6 +63,10 @@ upTable t (suc n) = set (upTable t n) n (t n)
 -- whether word k, a set, has not the number i
 abbrev pub unset : List ℕ → ℕ → ℕ → Bool
 unset words i k = not (has (getD words k 0) i)
+
+-- whether words k, two sets, share no number with the sets low and high
+abbrev pub clear : List ℕ → List ℕ → ℕ → ℕ → ℕ → Bool
+clear lows highs low high k = eqb (bitOr (bitAnd (getD lows k 0) low) (bitAnd (getD highs k 0) high)) 0
 
 -- with bit i of the words out: the side of the station `start`, whether it lacks a station, and the answer that names the span
 abbrev pub sideIn : Book → ℕ → List ℕ → ℕ → ℕ

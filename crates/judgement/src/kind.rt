@@ -58,7 +58,7 @@ fn cut_or_okay(b: Book, start: u8) -> Verdict
 }
 
 // SPLIT where with all lightpaths up some station is not joined, or what `cut_or_okay` says.
-fn split_or(b: Book) -> Verdict
+pub(crate) fn split_or(b: Book) -> Verdict
     requires { ⌜ Usable b ⌝ }
     ensures { λ r. ⌜ r ≡ splitOrIn b ⌝ }
 {

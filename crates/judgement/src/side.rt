@@ -1,12 +1,13 @@
-// Sides: sets of nodes as one word, bit i for node i, and the side of a node by sweeps over the lightpaths that are up.
+// Sides: sets of nodes as one word, bit i for node i, and the side of a node, grown from the nodes still to be looked at, each taken once.
 ghost use mathlib.Core.Path.{_≡_};
 ghost use mathlib.Core.Bool.{true};
 ghost use Prim.Native.Nat.{_≤_, _<_, min};
 ghost use lib.ListN.{length};
+ghost use lib.Bits.{bitOr, bitXor};
 ghost use lib.Count.{trailingZeros};
 ghost use Rattle.book.specs.Bits.{has, put};
-ghost use Rattle.judgement.specs.Network.{brought, swept, sideOf};
-ghost use Rattle.judgement.specs.Inside.{netOf, upOf, Fits, Grows, upTable, unset, size};
+ghost use Rattle.judgement.specs.Network.{sideOf};
+ghost use Rattle.judgement.specs.Inside.{netOf, upOf, Fits, noted, Leads, growth, nextIn, tookIn, upTable, unset, size};
 
 // A set of numbers below 64, those of the nodes; the same word serves for the spans of a route.
 pub(crate) struct Side {
@@ -56,64 +57,96 @@ impl Side {
         u64::count_ones(self.mask)
     }
 
-    // The set with both ends of a lightpath, where that is up and the set has one of them.
-    pub(crate) fn bring(self, a: u8, b: u8, up: bool) -> Side
-        requires { ⌜ (a < 64) × (b < 64) ⌝ }
-        ensures { λ r. ⌜ r .mask ≡ brought up a b (self .mask) ⌝ }
+    // The set with all of another put in.
+    pub(crate) fn with_all(self, other: Side) -> Side
+        ensures { λ r. ⌜ r .mask ≡ bitOr (self .mask) (other .mask) ⌝ }
     {
-        if up {
-            if self.has(a) {
-                return self.with_ends(a, b);
-            }
-            if self.has(b) {
-                return self.with_ends(a, b);
-            }
+        Side {
+            mask: self.mask | other.mask,
         }
-        self
+    }
+
+    // What the set has beyond a part of it.
+    pub(crate) fn beyond(self, part: Side) -> Side
+        ensures { λ r. ⌜ r .mask ≡ bitXor (self .mask) (part .mask) ⌝ }
+    {
+        Side {
+            mask: self.mask ^ part.mask,
+        }
     }
 }
 
-// One sweep: each of the first n lightpaths that is up, and of which the side has an end, brings both ends in.
-pub(crate) fn sweep<'a>(
-    side: Side,
-    from: &'a [u8; 96],
-    to: &'a [u8; 96],
-    up: &'a [bool; 96],
-    n: usize,
-) -> Side
-    requires { ⌜ Fits n (now from) (now to) × (length (now up) ≡ 96) ⌝ }
-    ensures { λ r. ⌜ r .mask ≡ swept (netOf n (now (from .entry)) (now (to .entry))) (upOf (now (up .entry))) n (side .mask) ⌝ }
+// Puts both ends of a lightpath into the row of each, where it is up.
+fn note(rows: &mut [u64; 64], a: u8, b: u8, up: bool)
+    requires { ⌜ (length (now rows) ≡ 64) × (a < 64) × (b < 64) ⌝ }
+    ensures { λ r. ⌜ now (rows .exit) ≡ noted up a b (now (rows .entry)) ⌝ }
 {
-    let mut grown = side;
+    if up {
+        let i = a as usize;
+        let j = b as usize;
+        let first = Side { mask: rows[i] };
+        let at_a = first.with_ends(a, b);
+        rows[i] = at_a.mask;
+        let second = Side { mask: rows[j] };
+        let at_b = second.with_ends(a, b);
+        rows[j] = at_b.mask;
+    }
+}
+
+// Where the lightpaths that are up lead: row x is the set of the ends of those that end at x.
+fn rows_of<'a>(from: &'a [u8; 96], to: &'a [u8; 96], up: &'a [bool; 96], n: usize) -> [u64; 64]
+    requires { ⌜ Fits n (now from) (now to) × (length (now up) ≡ 96) ⌝ }
+    ensures { λ r. ⌜ Leads 64 (netOf n (now (from .entry)) (now (to .entry))) (upOf (now (up .entry))) r ⌝ }
+{
+    let mut rows = [0u64; 64];
     let mut k = 0;
     while k < n {
-        grown = grown.bring(from[k], to[k], up[k]);
+        note(&mut rows, from[k], to[k], up[k]);
         k += 1;
     }
-    grown
+    rows
 }
 
-// The same from the last lightpath down to the first: what one sweep cannot carry on, since the lightpaths stand against the way, the other can.
-pub(crate) fn sweep_back<'a>(
-    side: Side,
-    from: &'a [u8; 96],
-    to: &'a [u8; 96],
-    up: &'a [bool; 96],
-    n: usize,
-) -> Side
-    requires { ⌜ Fits n (now from) (now to) × (length (now up) ≡ 96) ⌝ }
-    ensures { λ r. ⌜ Grows (netOf n (now (from .entry)) (now (to .entry))) (upOf (now (up .entry))) (side .mask) (r .mask) ⌝ }
-{
-    let mut grown = side;
-    let mut left = n;
-    while left > 0 {
-        left -= 1;
-        grown = grown.bring(from[left], to[left], up[left]);
+// A side that grows, and which of its nodes have been looked at.
+struct Growth {
+    pub side: Side,
+    pub seen: Side,
+}
+
+impl Growth {
+    // One node, of which nothing has been looked at.
+    fn from(start: u8) -> Growth
+        requires { ⌜ start < 64 ⌝ }
+        ensures { λ r. ⌜ r ≡ growth (put 0 start) 0 ⌝ }
+    {
+        let none = Side { mask: 0 };
+        let side = none.with(start);
+        Growth {
+            side: side,
+            seen: none,
+        }
     }
-    grown
+
+    // Looks at the lowest node of the side that has not been looked at: where it leads is put in.
+    fn take(self, rows: &[u64; 64]) -> Growth
+        requires { ⌜ (length (now rows) ≡ 64) × (nextIn self < 64) ⌝ }
+        ensures { λ r. ⌜ r ≡ tookIn self (now (rows .entry)) ⌝ }
+    {
+        let left = self.side.beyond(self.seen);
+        let i = left.lowest();
+        let row = Side {
+            mask: rows[i as usize],
+        };
+        let side = self.side.with_all(row);
+        let seen = self.seen.with(i);
+        Growth {
+            side: side,
+            seen: seen,
+        }
+    }
 }
 
-// The side of a node: sweeps up and back until one adds nothing.
+// The side of a node: each node of it is taken once.
 pub(crate) fn side_of<'a>(
     start: u8,
     from: &'a [u8; 96],
@@ -124,15 +157,12 @@ pub(crate) fn side_of<'a>(
     requires { ⌜ (start < 64) × Fits n (now from) (now to) × (length (now up) ≡ 96) ⌝ }
     ensures { λ r. ⌜ r .mask ≡ sideOf (netOf n (now (from .entry)) (now (to .entry))) (upOf (now (up .entry))) 64 start ⌝ }
 {
-    let none = Side { mask: 0 };
-    let mut side = none.with(start);
-    loop {
-        let next = sweep(side, from, to, up, n);
-        if next.mask == side.mask {
-            return side;
-        }
-        side = sweep_back(next, from, to, up, n);
+    let rows = rows_of(from, to, up, n);
+    let mut g = Growth::from(start);
+    while g.side.mask != g.seen.mask {
+        g = g.take(&rows);
     }
+    g.side
 }
 
 // Whether the side of a node holds another: no more of the side is grown than tells it.
@@ -147,18 +177,15 @@ pub(crate) fn joined<'a>(
     requires { ⌜ (start < 64) × (end < 64) × Fits n (now from) (now to) × (length (now up) ≡ 96) ⌝ }
     ensures { λ r. ⌜ r ≡ has (sideOf (netOf n (now (from .entry)) (now (to .entry))) (upOf (now (up .entry))) 64 start) end ⌝ }
 {
-    let none = Side { mask: 0 };
-    let mut side = none.with(start);
-    loop {
-        let next = sweep(side, from, to, up, n);
-        if next.has(end) {
+    let rows = rows_of(from, to, up, n);
+    let mut g = Growth::from(start);
+    while g.side.mask != g.seen.mask {
+        if g.side.has(end) {
             return true;
         }
-        if next.mask == side.mask {
-            return false;
-        }
-        side = sweep_back(next, from, to, up, n);
+        g = g.take(&rows);
     }
+    g.side.has(end)
 }
 
 // Which of the first n lightpaths are up without a span: those whose word, a set of spans, has not the span's bit.

@@ -10,6 +10,13 @@ mod linked {
             out: *mut u64,
             room: usize,
         ) -> bool;
+        pub fn gristvalley_contract(
+            book: *const u8,
+            len: usize,
+            choice: u32,
+            out: *mut u64,
+            room: usize,
+        ) -> bool;
         pub fn gristvalley_score(
             book: *const u8,
             len: usize,
@@ -56,6 +63,19 @@ pub fn read(book: &[u8], out: &mut [u64]) -> bool {
 pub fn judge(book: &[u8], choice: u32, out: &mut [u64]) -> bool {
     unsafe {
         linked::gristvalley_judge(
+            book.as_ptr(),
+            book.len(),
+            choice,
+            out.as_mut_ptr(),
+            out.len(),
+        )
+    }
+}
+
+/// Judges a choice by contraction.
+pub fn contract(book: &[u8], choice: u32, out: &mut [u64]) -> bool {
+    unsafe {
+        linked::gristvalley_contract(
             book.as_ptr(),
             book.len(),
             choice,

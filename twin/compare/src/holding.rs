@@ -7,7 +7,7 @@ use twin::generate::{numbers, Random};
 use twin::numbering::total;
 use twin::searching::{search_book, Answer};
 use twin::writing::{chosen_book, encode};
-use twin::{Book, Refusal};
+use twin::{Book, Contracted, Refusal, Verdict};
 
 /// How many answers there were of each kind: by operation, kind, and number of refusal.
 pub type Counts = BTreeMap<(&'static str, u64, u64), u64>;
@@ -122,6 +122,16 @@ impl Holding<'_> {
         limits
     }
 
+    /// Counts what contraction comes to: nothing merged, something merged, and more than one piece left though the verdict is OK.
+    fn count_pieces(&mut self, answer: &Result<Contracted, Refusal>) {
+        let Ok(told) = answer else { return };
+        let merged = if told.merges == 0 { 1 } else { 2 };
+        *self.counts.entry(("pieces", merged, 0)).or_default() += 1;
+        if told.verdict == Verdict::Okay && told.pieces.len() > 1 {
+            *self.counts.entry(("pieces", 3, 0)).or_default() += 1;
+        }
+    }
+
     /// Every operation.
     fn all(&mut self) {
         let read = wanted::read(self.read.as_ref().map_err(|refusal| *refusal));
@@ -131,6 +141,12 @@ impl Holding<'_> {
             let judged = wanted::judged(twin::judge(self.bytes, choice));
             self.same("judge", &[choice], judged, |s, out| {
                 face::judge(s, choice, out)
+            });
+            let contracted = twin::contract(self.bytes, choice);
+            self.count_pieces(&contracted);
+            let contracted = wanted::contracted(contracted);
+            self.same("contract", &[choice], contracted, |s, out| {
+                face::contract(s, choice, out)
             });
         }
         for &choice in &choices[1..] {

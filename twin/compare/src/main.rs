@@ -36,7 +36,12 @@ fn wanted(arguments: &[String]) -> Option<(u64, &Path, Until)> {
 fn kind_name(operation: &str, kind: u64, number: u64) -> String {
     match (operation, kind) {
         (_, 0) => format!("refused {number}"),
-        ("judge", 1..=4) => ["OVER", "SPLIT", "CUT", "OK"][kind as usize - 1].to_string(),
+        ("judge" | "contract", 1..=4) => {
+            ["OVER", "SPLIT", "CUT", "OK"][kind as usize - 1].to_string()
+        }
+        ("pieces", 1..=3) => {
+            ["as they were", "merged", "left though OK"][kind as usize - 1].to_string()
+        }
         ("search", 1..=3) => ["FOUND", "NONE", "MORE"][kind as usize - 1].to_string(),
         _ => "told".to_string(),
     }
@@ -66,22 +71,26 @@ fn save(folder: &Path, name: &str, bytes: &[u8], differences: &[String]) -> io::
     )
 }
 
-/// The kinds of answer that an operation has beside the refusals of a book: how many are told, and the numbers of its own refusals.
-const KINDS: [(&str, u64, &[u64]); 6] = [
-    ("read", 1, &[]),
-    ("judge", 4, &[12]),
-    ("score", 1, &[12]),
-    ("ask", 1, &[12, 13]),
-    ("search", 3, &[]),
-    ("write", 1, &[11, 12]),
+/// The kinds of answer that an operation has: how many are told, and the numbers of its own refusals beside those of a book. What contraction comes to is
+/// counted besides, and is never refused.
+const KINDS: [(&str, u64, Option<&[u64]>); 8] = [
+    ("read", 1, Some(&[])),
+    ("judge", 4, Some(&[12])),
+    ("contract", 4, Some(&[12])),
+    ("pieces", 3, None),
+    ("score", 1, Some(&[12])),
+    ("ask", 1, Some(&[12, 13])),
+    ("search", 3, Some(&[])),
+    ("write", 1, Some(&[11, 12])),
 ];
 
 /// The kinds of answer that never came.
 fn missing(counts: &Counts) -> Vec<String> {
     let mut missing = Vec::new();
     for (name, told, own) in KINDS {
-        let refused = (1..=10)
-            .chain(own.iter().copied())
+        let refused = own
+            .into_iter()
+            .flat_map(|own| (1..=10).chain(own.iter().copied()))
             .map(|number| (0, number));
         for (kind, number) in (1..=told).map(|kind| (kind, 0)).chain(refused) {
             if !counts.contains_key(&(name, kind, number)) {

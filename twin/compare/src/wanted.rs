@@ -1,6 +1,6 @@
 //! The eight numbers that docs/FACE.md gives to each answer of the twin.
 
-use twin::{Answer, Book, Refusal, Verdict};
+use twin::{Answer, Book, Contracted, Refusal, Verdict};
 
 /// A kind, the number and place of a refusal, and what the answer carries.
 pub type Eight = [u64; 8];
@@ -36,16 +36,26 @@ pub fn read(answer: Result<&Book, Refusal>) -> Eight {
     })
 }
 
+/// The kind of a verdict and its numbers, with one more behind them.
+fn verdict(verdict: Verdict, last: u64) -> (u64, [u64; 5]) {
+    match verdict {
+        Verdict::Over { span, load, limit } => {
+            (1, [span as u64, u64::from(load), u64::from(limit), 0, last])
+        }
+        Verdict::Split { side } => (2, [0, 0, 0, side, last]),
+        Verdict::Cut { span, side } => (3, [span as u64, 0, 0, side, last]),
+        Verdict::Okay => (4, [0, 0, 0, 0, last]),
+    }
+}
+
 /// What the judgement tells.
 pub fn judged(answer: Result<Verdict, Refusal>) -> Eight {
-    eight(answer, |verdict| match verdict {
-        Verdict::Over { span, load, limit } => {
-            (1, [span as u64, u64::from(load), u64::from(limit), 0, 0])
-        }
-        Verdict::Split { side } => (2, [0, 0, 0, side, 0]),
-        Verdict::Cut { span, side } => (3, [span as u64, 0, 0, side, 0]),
-        Verdict::Okay => (4, [0; 5]),
-    })
+    eight(answer, |told| verdict(told, 0))
+}
+
+/// What contraction tells: the verdict and the number of merges.
+pub fn contracted(answer: Result<Contracted, Refusal>) -> Eight {
+    eight(answer, |told| verdict(told.verdict, told.merges as u64))
 }
 
 /// What the score tells.

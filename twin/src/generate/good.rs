@@ -245,6 +245,35 @@ fn doubled(random: &mut Random, ground: &Ground) -> Vec<Lightpath> {
     lightpaths
 }
 
+/// A circle, and lightpaths that ride the same spans as parts of it: the shortest rings share
+/// spans, so contraction may leave pieces unmerged in books that are acceptable all the same.
+fn shadowed(random: &mut Random, ground: &Ground) -> Vec<Lightpath> {
+    let round = circle(ground);
+    // One lightpath without a shadow is enough to merge the whole circle.
+    let percent = *random.pick(&[80, 100, 100, 100]);
+    let mut lightpaths = round.clone();
+    for first in 0..round.len() {
+        if random.chance(percent) {
+            lightpaths.push(shadow(&round, first, random.between(1, 3)));
+        }
+    }
+    lightpaths
+}
+
+/// One lightpath on the spans of up to `most` that follow each other but don't come full circle.
+fn shadow(round: &[Lightpath], first: usize, most: usize) -> Lightpath {
+    let mut shadow = round[first].clone();
+    for step in 1..most {
+        let next = &round[(first + step) % round.len()];
+        let follows = shadow.to == next.from && shadow.from != next.to;
+        if follows && shadow.route.len() + next.route.len() <= LONGEST_ROUTE {
+            shadow.to = next.to;
+            shadow.route.extend(&next.route);
+        }
+    }
+    shadow
+}
+
 /// A lightpath on a route, if there is a route.
 fn lightpath([from, to]: [u8; 2], route: Route) -> Option<Lightpath> {
     route.map(|route| Lightpath { from, to, route })
@@ -253,15 +282,17 @@ fn lightpath([from, to]: [u8; 2], route: Route) -> Option<Lightpath> {
 /// Draws the lightpaths: a base that may join all stations, and more between drawn ends.
 fn lightpaths(random: &mut Random, size: &Size, ground: &Ground) -> Vec<Lightpath> {
     let detour = *random.pick(&[0, 5, 20, 60, 95]);
-    let mut lightpaths = match random.below(20) {
-        0..=9 => circle(ground),
-        10..=13 => tour(random, ground, detour),
-        14..=16 => doubled(random, ground),
-        _ => Vec::new(),
+    // Many more lightpaths would make rings of their own and merge what shadows keep apart.
+    let (mut lightpaths, part) = match random.below(20) {
+        0..=6 => (circle(ground), 1),
+        7..=9 => (shadowed(random, ground), 16),
+        10..=13 => (tour(random, ground, detour), 1),
+        14..=16 => (doubled(random, ground), 1),
+        _ => (Vec::new(), 1),
     };
     let stations = ground.stations_in_order();
     let wanted = random.between(size.extra_lightpaths.0, size.extra_lightpaths.1);
-    for _ in 0..wanted {
+    for _ in 0..wanted / part {
         if stations.len() < 2 || lightpaths.len() >= MOST_LIGHTPATHS {
             break;
         }

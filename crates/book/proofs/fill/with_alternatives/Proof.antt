@@ -7,7 +7,7 @@ use mathlib.Core.Path.{_≡_, refl}
 use lib.ListN.{length, getD, drop, length-take}
 use denote.Ref.{now}
 use Rattle.book.proofs.Routes.{part, lent}
-use Rattle.book.proofs.Lightpaths.{AlternativesTurned, alternatives-start, alternatives-next, alternatives-stop, alternatives-done, al-short, al-whole}
+use Rattle.book.proofs.Lightpaths.{AlternativesTurned, alternatives-start, alternatives-next, alternatives-stop, alternatives-done, al-inside, al-short, al-whole}
 use Rattle.book.proofs.fill.with_alternatives.Statement.{statement}
 use Rattle.book.proofs.fill.with_alternatives.Tie as tie
 
@@ -19,11 +19,11 @@ abbrev μ-loop : tie.MeasureT-loop
 
 -- the record at hand has no fault: it is there whole, and its route is short
 module _ (c : tie.Else1 Inv-loop μ-loop) where
-  whole : c .before .before .before .before .before .before .before .before .before .loop .place + 4 + getD (now (c .before .before .before .before .before .before .before .before .before .before .before .before .before .before .before .before .args .s)) (c .before .before .before .before .before .before .before .before .before .loop .place + 3) 0 ≤ length (now (c .before .before .before .before .before .before .before .before .before .before .before .before .before .before .before .before .args .s))
-  whole = al-whole _ _ _ _ (c .before .before .before .before .before .before .before .before .before .loop .inv .1) (c .before .before .before .before .before .before .before .before .loop-test .taken) (rw (part (now (c .before .before .before .before .before .before .before .before .before .before .before .before .before .before .before .before .args .s)) (c .before .before .before .before .before .before .before .before .before .loop .place), c .before .before .before .before .before .before .before .before .before .loop .inv .0) at (c .before .al-no .ensures)) (c .if1 .left)
+  whole : c .before .before .before .before .before .before .before .before .before .before .loop .place + 4 + getD (now (c .before .before .before .before .before .before .before .before .before .before .before .before .before .before .before .before .before .args .s)) (c .before .before .before .before .before .before .before .before .before .before .loop .place + 3) 0 ≤ length (now (c .before .before .before .before .before .before .before .before .before .before .before .before .before .before .before .before .before .args .s))
+  whole = al-whole _ _ _ _ (c .before .before .before .before .before .before .before .before .before .before .loop .inv .1) (c .before .before .before .before .before .before .before .before .before .loop-test .taken) (rw (part (now (c .before .before .before .before .before .before .before .before .before .before .before .before .before .before .before .before .before .args .s)) (c .before .before .before .before .before .before .before .before .before .before .loop .place), c .before .before .before .before .before .before .before .before .before .before .loop .inv .0) at (c .before .before .al-no .ensures)) (c .if1 .left)
 
-  short : getD (now (c .before .before .before .before .before .before .before .before .before .before .before .before .before .before .before .before .args .s)) (c .before .before .before .before .before .before .before .before .before .loop .place + 3) 0 ≤ 16
-  short = al-short _ _ _ _ (c .before .before .before .before .before .before .before .before .before .loop .inv .1) (c .before .before .before .before .before .before .before .before .loop-test .taken) (rw (part (now (c .before .before .before .before .before .before .before .before .before .before .before .before .before .before .before .before .args .s)) (c .before .before .before .before .before .before .before .before .before .loop .place), c .before .before .before .before .before .before .before .before .before .loop .inv .0) at (c .before .al-no .ensures)) (c .if1 .left)
+  short : getD (now (c .before .before .before .before .before .before .before .before .before .before .before .before .before .before .before .before .before .args .s)) (c .before .before .before .before .before .before .before .before .before .before .loop .place + 3) 0 ≤ 16
+  short = al-short _ _ _ _ (c .before .before .before .before .before .before .before .before .before .before .loop .inv .1) (c .before .before .before .before .before .before .before .before .before .loop-test .taken) (rw (part (now (c .before .before .before .before .before .before .before .before .before .before .before .before .before .before .before .before .before .args .s)) (c .before .before .before .before .before .before .before .before .before .before .loop .place), c .before .before .before .before .before .before .before .before .before .before .loop .inv .0) at (c .before .before .al-no .ensures)) (c .if1 .left)
 
 cast-first : tie.Need-cast-first Inv-loop μ-loop
 cast-first c = omega (arith, c .before .pre .2 .lightpaths-few)
@@ -46,11 +46,17 @@ part-d-end c = search needs
 al-no-requires : tie.Need-al-no-requires Inv-loop μ-loop
 al-no-requires c κs = let p = c .before .before .before .before .before .before .before .before .before .before .before .before .before .before .pre .2 in (p .ends-low, p .spans-few, p .owners-low, omega (arith, c .before .before .before .before .before .before .before .loop .inv .0, p .lightpaths-few))
 
+add-stopped : tie.Need-add-stopped Inv-loop μ-loop
+add-stopped c =
+    let s = now (c .before .before .before .before .before .before .before .before .before .before .before .before .before .before .before .before .before .before .args .s) in
+    let l = c .before .before .before .before .before .before .before .before .before .before .before .loop in
+    omega (arith, al-inside _ _ _ _ (l .inv .1) (c .before .before .before .before .before .before .before .before .before .before .loop-test .taken) (rw (part s (l .place), l .inv .0) at (c .before .before .before .al-no .ensures)))
+
 stopped-requires : tie.Need-stopped-requires Inv-loop μ-loop
 stopped-requires c κs = search needs
 
 returns : tie.Need-returns Inv-loop μ-loop
-returns c = rw (c .stopped .ensures) (λ ns sps lps e f. alternatives-stop _ _ _ _ (c .before .before .before .before .before .before .before .before .before .before .loop .inv .1) (c .before .before .before .before .before .before .before .before .before .loop-test .taken) (rw (part (now (c .before .before .before .before .before .before .before .before .before .before .before .before .before .before .before .before .before .args .s)) (c .before .before .before .before .before .before .before .before .before .before .loop .place), c .before .before .before .before .before .before .before .before .before .before .loop .inv .0) at (c .before .before .al-no .ensures)) (c .before .if1 .taken) ns sps lps e)
+returns c = rw (c .stopped .ensures) (λ ns sps lps e f. alternatives-stop _ _ _ _ (c .before .before .before .before .before .before .before .before .before .before .before .before .loop .inv .1) (c .before .before .before .before .before .before .before .before .before .before .before .loop-test .taken) (rw (part (now (c .before .before .before .before .before .before .before .before .before .before .before .before .before .before .before .before .before .before .before .args .s)) (c .before .before .before .before .before .before .before .before .before .before .before .before .loop .place), c .before .before .before .before .before .before .before .before .before .before .before .before .loop .inv .0) at (c .before .before .before .before .al-no .ensures)) (c .before .before .if1 .taken) ns sps lps e)
 
 add-who : tie.Need-add-who Inv-loop μ-loop
 add-who c = omega (arith, whole c)
@@ -65,16 +71,16 @@ shared-slice-read-l : tie.Need-shared-slice-read-l Inv-loop μ-loop
 shared-slice-read-l c = omega (arith, whole (c .before .before))
 
 with-requires : tie.Need-with-requires Inv-loop μ-loop
-with-requires c κs = let l = c .before .before .before .before .before .before .before .before .before .before .before .loop in (omega (arith, l .inv .1 .same-few, c .before .before .before .before .before .before .before .before .before .before .loop-test .taken, c .before .before .before .before .before .before .before .before .before .before .before .before .before .before .before .before .before .before .pre .1), omega (arith, l .inv .1 .many-few, c .before .before .before .before .before .before .before .before .before .before .loop-test .taken, c .before .before .before .before .before .before .before .before .before .before .before .before .before .before .before .before .before .before .pre .1))
+with-requires c κs = let l = c .before .before .before .before .before .before .before .before .before .before .before .before .loop in (omega (arith, l .inv .1 .same-few, c .before .before .before .before .before .before .before .before .before .before .before .loop-test .taken, c .before .before .before .before .before .before .before .before .before .before .before .before .before .before .before .before .before .before .before .pre .1), omega (arith, l .inv .1 .many-few, c .before .before .before .before .before .before .before .before .before .before .before .loop-test .taken, c .before .before .before .before .before .before .before .before .before .before .before .before .before .before .before .before .before .before .before .pre .1))
 
 array-write-owner : tie.Need-array-write-owner Inv-loop μ-loop
-array-write-owner c = omega (arith, c .before .before .before .before .before .before .before .before .before .before .before .before .before .before .before .before .before .before .before .pre .1, c .before .before .before .before .before .before .before .before .before .before .before .before .before .before .before .before .before .before .before .pre .2 .lightpaths-few, c .before .before .before .before .before .before .before .before .before .before .before .loop-test .taken)
+array-write-owner c = omega (arith, c .before .before .before .before .before .before .before .before .before .before .before .before .before .before .before .before .before .before .before .before .pre .1, c .before .before .before .before .before .before .before .before .before .before .before .before .before .before .before .before .before .before .before .before .pre .2 .lightpaths-few, c .before .before .before .before .before .before .before .before .before .before .before .before .loop-test .taken)
 
 add-row : tie.Need-add-row Inv-loop μ-loop
-add-row c = omega (arith, c .before .before .before .before .before .before .before .before .before .before .before .before .before .before .before .before .before .before .before .pre .1, c .before .before .before .before .before .before .before .before .before .before .before .before .before .before .before .before .before .before .before .pre .2 .lightpaths-few, c .before .before .before .before .before .before .before .before .before .before .before .loop-test .taken)
+add-row c = omega (arith, c .before .before .before .before .before .before .before .before .before .before .before .before .before .before .before .before .before .before .before .before .pre .1, c .before .before .before .before .before .before .before .before .before .before .before .before .before .before .before .before .before .before .before .before .pre .2 .lightpaths-few, c .before .before .before .before .before .before .before .before .before .before .before .before .loop-test .taken)
 
 array-write-len : tie.Need-array-write-len Inv-loop μ-loop
-array-write-len c = omega (arith, c .before .before .before .before .before .before .before .before .before .before .before .before .before .before .before .before .before .before .before .pre .1, c .before .before .before .before .before .before .before .before .before .before .before .before .before .before .before .before .before .before .before .pre .2 .lightpaths-few, c .before .before .before .before .before .before .before .before .before .before .before .loop-test .taken)
+array-write-len c = omega (arith, c .before .before .before .before .before .before .before .before .before .before .before .before .before .before .before .before .before .before .before .before .pre .1, c .before .before .before .before .before .before .before .before .before .before .before .before .before .before .before .before .before .before .before .before .pre .2 .lightpaths-few, c .before .before .before .before .before .before .before .before .before .before .before .before .loop-test .taken)
 
 add-start : tie.Need-add-start Inv-loop μ-loop
 add-start c = omega (arith, whole (c .before .before .before))
@@ -86,7 +92,7 @@ add-place : tie.Need-add-place Inv-loop μ-loop
 add-place c = omega (arith, whole (c .before .before .before))
 
 mul-put-row : tie.Need-mul-put-row Inv-loop μ-loop
-mul-put-row c = omega (arith, c .before .before .before .before .before .before .before .before .before .before .before .before .before .before .before .before .before .before .before .before .pre .1, c .before .before .before .before .before .before .before .before .before .before .before .before .before .before .before .before .before .before .before .before .pre .2 .lightpaths-few, c .before .before .before .before .before .before .before .before .before .before .before .before .loop-test .taken)
+mul-put-row c = omega (arith, c .before .before .before .before .before .before .before .before .before .before .before .before .before .before .before .before .before .before .before .before .before .pre .1, c .before .before .before .before .before .before .before .before .before .before .before .before .before .before .before .before .before .before .before .before .before .pre .2 .lightpaths-few, c .before .before .before .before .before .before .before .before .before .before .before .before .before .loop-test .taken)
 
 sub-put-row : tie.Need-sub-put-row Inv-loop μ-loop
 sub-put-row c = omega arith
@@ -99,36 +105,36 @@ part-put-row-end c = omega (arith, whole (c .before .before .before .before))
 
 put-row-requires : tie.Need-put-row-requires Inv-loop μ-loop
 put-row-requires c κs =
-    let s = now (c .before .before .before .before .before .before .before .before .before .before .before .before .before .before .before .before .before .before .before .before .before .args .s) in
-    let l = c .before .before .before .before .before .before .before .before .before .before .before .before .before .before .loop in
+    let s = now (c .before .before .before .before .before .before .before .before .before .before .before .before .before .before .before .before .before .before .before .before .before .before .args .s) in
+    let l = c .before .before .before .before .before .before .before .before .before .before .before .before .before .before .before .loop in
     let n = getD s (l .place + 3) 0 in
-    (l .inv .1 .long, omega (arith, length-take (l .place + 4 + n - (l .place + 4)) (drop (l .place + 4) s), short (c .before .before .before .before .before), c .before .before .before .before .before .before .before .before .before .before .before .before .before .loop-test .taken, c .before .before .before .before .before .before .before .before .before .before .before .before .before .before .before .before .before .before .before .before .before .pre .1, c .before .before .before .before .before .before .before .before .before .before .before .before .before .before .before .before .before .before .before .before .before .pre .2 .lightpaths-few))
+    (l .inv .1 .long, omega (arith, length-take (l .place + 4 + n - (l .place + 4)) (drop (l .place + 4) s), short (c .before .before .before .before .before), c .before .before .before .before .before .before .before .before .before .before .before .before .before .before .loop-test .taken, c .before .before .before .before .before .before .before .before .before .before .before .before .before .before .before .before .before .before .before .before .before .before .pre .1, c .before .before .before .before .before .before .before .before .before .before .before .before .before .before .before .before .before .before .before .before .before .before .pre .2 .lightpaths-few))
 
 mul-low : tie.Need-mul-low Inv-loop μ-loop
-mul-low c = omega (arith, c .before .before .before .before .before .before .before .before .before .before .before .before .before .before .before .before .before .before .before .before .before .before .pre .1, c .before .before .before .before .before .before .before .before .before .before .before .before .before .before .before .before .before .before .before .before .before .before .pre .2 .lightpaths-few, c .before .before .before .before .before .before .before .before .before .before .before .before .before .before .loop-test .taken)
+mul-low c = omega (arith, c .before .before .before .before .before .before .before .before .before .before .before .before .before .before .before .before .before .before .before .before .before .before .before .pre .1, c .before .before .before .before .before .before .before .before .before .before .before .before .before .before .before .before .before .before .before .before .before .before .before .pre .2 .lightpaths-few, c .before .before .before .before .before .before .before .before .before .before .before .before .before .before .before .loop-test .taken)
 
 array-write-low : tie.Need-array-write-low Inv-loop μ-loop
-array-write-low c = omega (arith, c .before .before .before .before .before .before .before .before .before .before .before .before .before .before .before .before .before .before .before .before .before .before .pre .1, c .before .before .before .before .before .before .before .before .before .before .before .before .before .before .before .before .before .before .before .before .before .before .pre .2 .lightpaths-few, c .before .before .before .before .before .before .before .before .before .before .before .before .before .before .loop-test .taken)
+array-write-low c = omega (arith, c .before .before .before .before .before .before .before .before .before .before .before .before .before .before .before .before .before .before .before .before .before .before .before .pre .1, c .before .before .before .before .before .before .before .before .before .before .before .before .before .before .before .before .before .before .before .before .before .before .before .pre .2 .lightpaths-few, c .before .before .before .before .before .before .before .before .before .before .before .before .before .before .before .loop-test .taken)
 
 mul-high : tie.Need-mul-high Inv-loop μ-loop
-mul-high c = omega (arith, c .before .before .before .before .before .before .before .before .before .before .before .before .before .before .before .before .before .before .before .before .before .before .pre .1, c .before .before .before .before .before .before .before .before .before .before .before .before .before .before .before .before .before .before .before .before .before .before .pre .2 .lightpaths-few, c .before .before .before .before .before .before .before .before .before .before .before .before .before .before .loop-test .taken)
+mul-high c = omega (arith, c .before .before .before .before .before .before .before .before .before .before .before .before .before .before .before .before .before .before .before .before .before .before .before .pre .1, c .before .before .before .before .before .before .before .before .before .before .before .before .before .before .before .before .before .before .before .before .before .before .before .pre .2 .lightpaths-few, c .before .before .before .before .before .before .before .before .before .before .before .before .before .before .before .loop-test .taken)
 
 array-write-high : tie.Need-array-write-high Inv-loop μ-loop
-array-write-high c = omega (arith, c .before .before .before .before .before .before .before .before .before .before .before .before .before .before .before .before .before .before .before .before .before .before .pre .1, c .before .before .before .before .before .before .before .before .before .before .before .before .before .before .before .before .before .before .before .before .before .before .pre .2 .lightpaths-few, c .before .before .before .before .before .before .before .before .before .before .before .before .before .before .loop-test .taken)
+array-write-high c = omega (arith, c .before .before .before .before .before .before .before .before .before .before .before .before .before .before .before .before .before .before .before .before .before .before .before .pre .1, c .before .before .before .before .before .before .before .before .before .before .before .before .before .before .before .before .before .before .before .before .before .before .before .pre .2 .lightpaths-few, c .before .before .before .before .before .before .before .before .before .before .before .before .before .before .before .loop-test .taken)
 
 add-k : tie.Need-add-k Inv-loop μ-loop
-add-k c = omega (arith, c .before .before .before .before .before .before .before .before .before .before .before .before .before .before .before .before .before .before .before .before .before .before .pre .1, c .before .before .before .before .before .before .before .before .before .before .before .before .before .before .loop-test .taken)
+add-k c = omega (arith, c .before .before .before .before .before .before .before .before .before .before .before .before .before .before .before .before .before .before .before .before .before .before .before .pre .1, c .before .before .before .before .before .before .before .before .before .before .before .before .before .before .before .loop-test .taken)
 
 loop-less : tie.Need-loop-less Inv-loop μ-loop
 loop-less c = search needs
 
 loop-again : tie.Need-loop-again Inv-loop μ-loop
 loop-again c =
-    let s = now (c .before .before .before .before .before .before .before .before .before .before .before .before .before .before .before .before .before .before .before .before .before .before .args .s) in
-    let l = c .before .before .before .before .before .before .before .before .before .before .before .before .before .before .before .loop in
+    let s = now (c .before .before .before .before .before .before .before .before .before .before .before .before .before .before .before .before .before .before .before .before .before .before .before .args .s) in
+    let l = c .before .before .before .before .before .before .before .before .before .before .before .before .before .before .before .before .loop in
     rw (c .put-row .ensures .0, c .put-row .ensures .1, c .before .before .before .with .ensures) (
       l .inv .0,
-      alternatives-next _ _ _ _ (l .inv .1) (c .before .before .before .before .before .before .before .before .before .before .before .before .before .before .loop-test .taken) (rw (part s (l .place), l .inv .0) at (c .before .before .before .before .before .before .before .al-no .ensures)) (c .before .before .before .before .before .before .if1 .left) (c .before .before .before .before .before .before .before .before .before .before .before .before .before .before .before .before .before .before .before .before .before .before .pre .1) (c .before .before .before .before .before .before .before .before .before .before .before .before .before .before .before .before .before .before .before .before .before .before .pre .2 .lightpaths-few) _
+      alternatives-next _ _ _ _ (l .inv .1) (c .before .before .before .before .before .before .before .before .before .before .before .before .before .before .before .loop-test .taken) (rw (part s (l .place), l .inv .0) at (c .before .before .before .before .before .before .before .before .al-no .ensures)) (c .before .before .before .before .before .before .if1 .left) (c .before .before .before .before .before .before .before .before .before .before .before .before .before .before .before .before .before .before .before .before .before .before .before .pre .1) (c .before .before .before .before .before .before .before .before .before .before .before .before .before .before .before .before .before .before .before .before .before .before .before .pre .2 .lightpaths-few) _
           (lent s (l .place + 4) (getD s (l .place + 3) 0)),
     )
 
@@ -151,6 +157,7 @@ with-alternatives-spec =
     part-d-start
     part-d-end
     al-no-requires
+    add-stopped
     stopped-requires
     returns
     add-who

@@ -8,7 +8,7 @@ use lib.ListN.{length, getD, drop, length-map, length-reverse, length-take}
 use denote.Ref.{now}
 use Rattle.book.proofs.Routes.{part, lent}
 use Rattle.book.proofs.Rows.{route-long}
-use Rattle.book.proofs.Lightpaths.{LightpathsTurned, lightpaths-start, lightpaths-next, lightpaths-stop, lightpaths-done, lp-short, lp-whole, routeOf}
+use Rattle.book.proofs.Lightpaths.{LightpathsTurned, lightpaths-start, lightpaths-next, lightpaths-stop, lightpaths-done, lp-inside, lp-short, lp-whole, routeOf}
 use Rattle.book.proofs.fill.with_lightpaths.Statement.{statement}
 use Rattle.book.proofs.fill.with_lightpaths.Tie as tie
 
@@ -19,11 +19,11 @@ abbrev μ-loop : tie.MeasureT-loop
 μ-loop s at count b n from₀ to₀ len₀ route₀ low₀ high₀ place₀ k₀ from to len route low high place k = count - k
 
 module _ (c : tie.Else1 Inv-loop μ-loop) where
-  whole : c .before .before .before .before .before .before .before .loop .place + 5 + getD (now (c .before .before .before .before .before .before .before .before .before .args .s)) (c .before .before .before .before .before .before .before .loop .place + 4) 0 ≤ length (now (c .before .before .before .before .before .before .before .before .before .args .s))
-  whole = lp-whole _ _ _ _ (c .before .before .before .before .before .before .before .loop .inv) (c .before .before .before .before .before .before .loop-test .taken) (rw (part (now (c .before .before .before .before .before .before .before .before .before .args .s)) (c .before .before .before .before .before .before .before .loop .place)) at (c .before .lp-no .ensures)) (c .if1 .left)
+  whole : c .before .before .before .before .before .before .before .before .loop .place + 5 + getD (now (c .before .before .before .before .before .before .before .before .before .before .args .s)) (c .before .before .before .before .before .before .before .before .loop .place + 4) 0 ≤ length (now (c .before .before .before .before .before .before .before .before .before .before .args .s))
+  whole = lp-whole _ _ _ _ (c .before .before .before .before .before .before .before .before .loop .inv) (c .before .before .before .before .before .before .before .loop-test .taken) (rw (part (now (c .before .before .before .before .before .before .before .before .before .before .args .s)) (c .before .before .before .before .before .before .before .before .loop .place)) at (c .before .before .lp-no .ensures)) (c .if1 .left)
 
-  short : getD (now (c .before .before .before .before .before .before .before .before .before .args .s)) (c .before .before .before .before .before .before .before .loop .place + 4) 0 ≤ 16
-  short = lp-short _ _ _ _ (c .before .before .before .before .before .before .before .loop .inv) (c .before .before .before .before .before .before .loop-test .taken) (rw (part (now (c .before .before .before .before .before .before .before .before .before .args .s)) (c .before .before .before .before .before .before .before .loop .place)) at (c .before .lp-no .ensures)) (c .if1 .left)
+  short : getD (now (c .before .before .before .before .before .before .before .before .before .before .args .s)) (c .before .before .before .before .before .before .before .before .loop .place + 4) 0 ≤ 16
+  short = lp-short _ _ _ _ (c .before .before .before .before .before .before .before .before .loop .inv) (c .before .before .before .before .before .before .before .loop-test .taken) (rw (part (now (c .before .before .before .before .before .before .before .before .before .before .args .s)) (c .before .before .before .before .before .before .before .before .loop .place)) at (c .before .before .lp-no .ensures)) (c .if1 .left)
 
 loop-holds : tie.Need-loop-holds Inv-loop μ-loop
 loop-holds c = lightpaths-start _ _ _ _ (c .before .pre .0)
@@ -40,11 +40,17 @@ part-lp-no-end c = search needs
 lp-no-requires : tie.Need-lp-no-requires Inv-loop μ-loop
 lp-no-requires c κs = let p = c .before .before .before .before .before .before .before .pre .2 in (p .ends-low, p .spans-few, p .nodes-few)
 
+add-stopped : tie.Need-add-stopped Inv-loop μ-loop
+add-stopped c =
+    let s = now (c .before .before .before .before .before .before .before .before .before .before .before .args .s) in
+    let l = c .before .before .before .before .before .before .before .before .before .loop in
+    omega (arith, lp-inside _ _ _ _ (l .inv) (c .before .before .before .before .before .before .before .before .loop-test .taken) (rw (part s (l .place)) at (c .before .before .before .lp-no .ensures)))
+
 stopped-requires : tie.Need-stopped-requires Inv-loop μ-loop
 stopped-requires c κs = search needs
 
 returns : tie.Need-returns Inv-loop μ-loop
-returns c = rw (c .stopped .ensures) (lightpaths-stop _ _ _ _ (c .before .before .before .before .before .before .before .before .loop .inv) (c .before .before .before .before .before .before .before .loop-test .taken) (rw (part (now (c .before .before .before .before .before .before .before .before .before .before .args .s)) (c .before .before .before .before .before .before .before .before .loop .place)) at (c .before .before .lp-no .ensures)) (c .before .if1 .taken))
+returns c = rw (c .stopped .ensures) (lightpaths-stop _ _ _ _ (c .before .before .before .before .before .before .before .before .before .before .loop .inv) (c .before .before .before .before .before .before .before .before .before .loop-test .taken) (rw (part (now (c .before .before .before .before .before .before .before .before .before .before .before .before .args .s)) (c .before .before .before .before .before .before .before .before .before .before .loop .place)) at (c .before .before .before .before .lp-no .ensures)) (c .before .before .if1 .taken))
 
 add-from : tie.Need-add-from Inv-loop μ-loop
 add-from c = omega (arith, whole c)
@@ -96,11 +102,11 @@ part-put-row-end c = omega (arith, whole (c .before .before .before .before))
 
 put-row-requires : tie.Need-put-row-requires Inv-loop μ-loop
 put-row-requires c κs =
-    let s = now (c .before .before .before .before .before .before .before .before .before .before .before .before .before .before .args .s) in
-    let l = c .before .before .before .before .before .before .before .before .before .before .before .before .loop in
+    let s = now (c .before .before .before .before .before .before .before .before .before .before .before .before .before .before .before .args .s) in
+    let l = c .before .before .before .before .before .before .before .before .before .before .before .before .before .loop in
     let n = getD s (l .place + 4) 0 in (
-      route-long (l .inv .in-rows) (omega (arith, length-map (reverse (l .inv .before)) routeOf, length-reverse (l .inv .before), l .inv .counted, l .inv .few, c .before .before .before .before .before .before .before .before .before .before .before .before .before .before .pre .1)),
-      omega (arith, length-take (l .place + 5 + n - (l .place + 5)) (drop (l .place + 5) s), short (c .before .before .before .before .before), c .before .before .before .before .before .before .before .before .before .before .before .loop-test .taken, c .before .before .before .before .before .before .before .before .before .before .before .before .before .before .pre .1),
+      route-long (l .inv .in-rows) (omega (arith, length-map (reverse (l .inv .before)) routeOf, length-reverse (l .inv .before), l .inv .counted, l .inv .few, c .before .before .before .before .before .before .before .before .before .before .before .before .before .before .before .pre .1)),
+      omega (arith, length-take (l .place + 5 + n - (l .place + 5)) (drop (l .place + 5) s), short (c .before .before .before .before .before), c .before .before .before .before .before .before .before .before .before .before .before .before .loop-test .taken, c .before .before .before .before .before .before .before .before .before .before .before .before .before .before .before .pre .1),
     )
 
 mul-low : tie.Need-mul-low Inv-loop μ-loop
@@ -123,10 +129,10 @@ loop-less c = search needs
 
 loop-again : tie.Need-loop-again Inv-loop μ-loop
 loop-again c =
-    let s = now (c .before .before .before .before .before .before .before .before .before .before .before .before .before .before .before .args .s) in
-    let l = c .before .before .before .before .before .before .before .before .before .before .before .before .before .loop in
+    let s = now (c .before .before .before .before .before .before .before .before .before .before .before .before .before .before .before .before .args .s) in
+    let l = c .before .before .before .before .before .before .before .before .before .before .before .before .before .before .loop in
     rw (c .put-row .ensures .0, c .put-row .ensures .1)
-    (lightpaths-next _ _ _ _ (l .inv) (c .before .before .before .before .before .before .before .before .before .before .before .before .loop-test .taken) (rw (part s (l .place)) at (c .before .before .before .before .before .before .before .lp-no .ensures)) (c .before .before .before .before .before .before .if1 .left) (c .before .before .before .before .before .before .before .before .before .before .before .before .before .before .before .pre .1) _ (lent s (l .place + 5) (getD s (l .place + 4) 0)))
+    (lightpaths-next _ _ _ _ (l .inv) (c .before .before .before .before .before .before .before .before .before .before .before .before .before .loop-test .taken) (rw (part s (l .place)) at (c .before .before .before .before .before .before .before .before .lp-no .ensures)) (c .before .before .before .before .before .before .if1 .left) (c .before .before .before .before .before .before .before .before .before .before .before .before .before .before .before .before .pre .1) _ (lent s (l .place + 5) (getD s (l .place + 4) 0)))
 
 with-rows-requires : tie.Need-with-rows-requires Inv-loop μ-loop
 with-rows-requires c κs = search needs
@@ -145,6 +151,7 @@ with-lightpaths-spec =
     part-lp-no-start
     part-lp-no-end
     lp-no-requires
+    add-stopped
     stopped-requires
     returns
     add-from

@@ -5,6 +5,7 @@ use Prim.Native.Nat.{_-_}
 use denote.Ref.{now}
 use Rattle.book.proofs.Routes.{part}
 use Rattle.book.proofs.Filling.{NodesTurned, nodes-start, nodes-next, nodes-stop, nodes-done}
+use Rattle.book.proofs.Numbers.{at-first}
 use Rattle.book.proofs.Turns.{turned-fits}
 use Rattle.book.proofs.fill.with_nodes.Statement.{statement}
 use Rattle.book.proofs.fill.with_nodes.Tie as tie
@@ -40,10 +41,10 @@ returns : tie.Need-returns Inv-loop μ-loop
 returns c = let s = c .before .before .before .before .before .before .before .before in let l = c .before .before .before .before .before .loop in rw (c .stopped .ensures) (nodes-stop _ _ _ (l .inv) (c .before .before .before .before .loop-test .taken) (rw (part (now (s .args .s)) (l .place)) at (c .before .before .nd-no .ensures)) (c .before .if1 .taken))
 
 add-flag : tie.Need-add-flag Inv-loop μ-loop
-add-flag c = let s = c .before .before .before .before .before .before .before in let l = c .before .before .before .before .loop in omega (arith, turned-fits _ _ _ _ (l .inv .turned) (c .before .before .before .loop-test .taken) (rw (part (now (s .args .s)) (l .place)) at (c .before .nd-no .ensures)) (c .if1 .left))
+add-flag c = let s = c .before .before .before .before .before .before .before in let l = c .before .before .before .before .loop in omega (arith, turned-fits _ _ _ _ (l .inv .turned) (c .before .before .before .loop-test .taken) (at-first (rw (part (now (s .args .s)) (l .place)) at (c .before .nd-no .ensures))) (c .if1 .left))
 
 shared-slice-read-flag : tie.Need-shared-slice-read-flag Inv-loop μ-loop
-shared-slice-read-flag c = let s = c .before .before .before .before .before .before .before .before in let l = c .before .before .before .before .before .loop in omega (arith, turned-fits _ _ _ _ (l .inv .turned) (c .before .before .before .before .loop-test .taken) (rw (part (now (s .args .s)) (l .place)) at (c .before .before .nd-no .ensures)) (c .before .if1 .left))
+shared-slice-read-flag c = let s = c .before .before .before .before .before .before .before .before in let l = c .before .before .before .before .before .loop in omega (arith, turned-fits _ _ _ _ (l .inv .turned) (c .before .before .before .before .loop-test .taken) (at-first (rw (part (now (s .args .s)) (l .place)) at (c .before .before .nd-no .ensures))) (c .before .if1 .left))
 
 cast-put-if : tie.Need-cast-put-if Inv-loop μ-loop
 cast-put-if c = search needs
@@ -52,7 +53,7 @@ put-if-requires : tie.Need-put-if-requires Inv-loop μ-loop
 put-if-requires c κs = search needs
 
 add-place : tie.Need-add-place Inv-loop μ-loop
-add-place c = let s = c .before .before .before .before .before .before .before .before .before in let l = c .before .before .before .before .before .before .loop in omega (arith, turned-fits _ _ _ _ (l .inv .turned) (c .before .before .before .before .before .loop-test .taken) (rw (part (now (s .args .s)) (l .place)) at (c .before .before .before .nd-no .ensures)) (c .before .before .if1 .left))
+add-place c = let s = c .before .before .before .before .before .before .before .before .before in let l = c .before .before .before .before .before .before .loop in omega (arith, turned-fits _ _ _ _ (l .inv .turned) (c .before .before .before .before .before .loop-test .taken) (at-first (rw (part (now (s .args .s)) (l .place)) at (c .before .before .before .nd-no .ensures))) (c .before .before .if1 .left))
 
 add-k : tie.Need-add-k Inv-loop μ-loop
 add-k c = search needs

@@ -13,6 +13,7 @@ use Rattle.book.specs.Format.{sp}
 use Rattle.book.specs.Inside.{Halted}
 use Rattle.book.proofs.Routes.{part}
 use Rattle.book.proofs.Filling.{SpansTurned, spans-start, spans-next, spans-stop, spans-done}
+use Rattle.book.proofs.Numbers.{at-first}
 use Rattle.book.proofs.Turns.{turned-fits}
 use Rattle.book.proofs.fill.with_spans.Statement.{statement}
 use Rattle.book.proofs.fill.with_spans.Tie as tie
@@ -49,34 +50,34 @@ returns c =
     (spans-stop _ _ _ _ (l .inv) (c .before .before .before .before .loop-test .taken) (rw (part (now (s .args .s)) (l .place)) at (c .before .before .sp-no .ensures)) (c .before .if1 .taken)))
 
 add-left : tie.Need-add-left Inv-loop μ-loop
-add-left c = let s = c .before .before .before .before .before .before in let l = c .before .before .before .before .loop in omega (arith, turned-fits _ _ _ _ (l .inv .turned) (c .before .before .before .loop-test .taken) (rw (part (now (s .args .s)) (l .place)) at (c .before .sp-no .ensures)) (c .if1 .left))
+add-left c = let s = c .before .before .before .before .before .before in let l = c .before .before .before .before .loop in omega (arith, turned-fits _ _ _ _ (l .inv .turned) (c .before .before .before .loop-test .taken) (at-first (rw (part (now (s .args .s)) (l .place)) at (c .before .sp-no .ensures))) (c .if1 .left))
 
 shared-slice-read-left : tie.Need-shared-slice-read-left Inv-loop μ-loop
-shared-slice-read-left c = let s = c .before .before .before .before .before .before .before in let l = c .before .before .before .before .before .loop in omega (arith, turned-fits _ _ _ _ (l .inv .turned) (c .before .before .before .before .loop-test .taken) (rw (part (now (s .args .s)) (l .place)) at (c .before .before .sp-no .ensures)) (c .before .if1 .left))
+shared-slice-read-left c = let s = c .before .before .before .before .before .before .before in let l = c .before .before .before .before .before .loop in omega (arith, turned-fits _ _ _ _ (l .inv .turned) (c .before .before .before .before .loop-test .taken) (at-first (rw (part (now (s .args .s)) (l .place)) at (c .before .before .sp-no .ensures))) (c .before .if1 .left))
 
 array-write-left : tie.Need-array-write-left Inv-loop μ-loop
 array-write-left c = search needs
 
 add-right : tie.Need-add-right Inv-loop μ-loop
-add-right c = let s = c .before .before .before .before .before .before .before in let l = c .before .before .before .before .before .loop in omega (arith, turned-fits _ _ _ _ (l .inv .turned) (c .before .before .before .before .loop-test .taken) (rw (part (now (s .args .s)) (l .place)) at (c .before .before .sp-no .ensures)) (c .before .if1 .left))
+add-right c = let s = c .before .before .before .before .before .before .before in let l = c .before .before .before .before .before .loop in omega (arith, turned-fits _ _ _ _ (l .inv .turned) (c .before .before .before .before .loop-test .taken) (at-first (rw (part (now (s .args .s)) (l .place)) at (c .before .before .sp-no .ensures))) (c .before .if1 .left))
 
 shared-slice-read-right : tie.Need-shared-slice-read-right Inv-loop μ-loop
-shared-slice-read-right c = let s = c .before .before .before .before .before .before .before .before in let l = c .before .before .before .before .before .before .loop in omega (arith, turned-fits _ _ _ _ (l .inv .turned) (c .before .before .before .before .before .loop-test .taken) (rw (part (now (s .args .s)) (l .place)) at (c .before .before .before .sp-no .ensures)) (c .before .before .if1 .left))
+shared-slice-read-right c = let s = c .before .before .before .before .before .before .before .before in let l = c .before .before .before .before .before .before .loop in omega (arith, turned-fits _ _ _ _ (l .inv .turned) (c .before .before .before .before .before .loop-test .taken) (at-first (rw (part (now (s .args .s)) (l .place)) at (c .before .before .before .sp-no .ensures))) (c .before .before .if1 .left))
 
 array-write-right : tie.Need-array-write-right Inv-loop μ-loop
 array-write-right c = search needs
 
 add-limit : tie.Need-add-limit Inv-loop μ-loop
-add-limit c = let s = c .before .before .before .before .before .before .before .before in let l = c .before .before .before .before .before .before .loop in omega (arith, turned-fits _ _ _ _ (l .inv .turned) (c .before .before .before .before .before .loop-test .taken) (rw (part (now (s .args .s)) (l .place)) at (c .before .before .before .sp-no .ensures)) (c .before .before .if1 .left))
+add-limit c = let s = c .before .before .before .before .before .before .before .before in let l = c .before .before .before .before .before .before .loop in omega (arith, turned-fits _ _ _ _ (l .inv .turned) (c .before .before .before .before .before .loop-test .taken) (at-first (rw (part (now (s .args .s)) (l .place)) at (c .before .before .before .sp-no .ensures))) (c .before .before .if1 .left))
 
 shared-slice-read-limit : tie.Need-shared-slice-read-limit Inv-loop μ-loop
-shared-slice-read-limit c = let s = c .before .before .before .before .before .before .before .before .before in let l = c .before .before .before .before .before .before .before .loop in omega (arith, turned-fits _ _ _ _ (l .inv .turned) (c .before .before .before .before .before .before .loop-test .taken) (rw (part (now (s .args .s)) (l .place)) at (c .before .before .before .before .sp-no .ensures)) (c .before .before .before .if1 .left))
+shared-slice-read-limit c = let s = c .before .before .before .before .before .before .before .before .before in let l = c .before .before .before .before .before .before .before .loop in omega (arith, turned-fits _ _ _ _ (l .inv .turned) (c .before .before .before .before .before .before .loop-test .taken) (at-first (rw (part (now (s .args .s)) (l .place)) at (c .before .before .before .before .sp-no .ensures))) (c .before .before .before .if1 .left))
 
 array-write-limit : tie.Need-array-write-limit Inv-loop μ-loop
 array-write-limit c = search needs
 
 add-place : tie.Need-add-place Inv-loop μ-loop
-add-place c = let s = c .before .before .before .before .before .before .before .before .before in let l = c .before .before .before .before .before .before .before .loop in omega (arith, turned-fits _ _ _ _ (l .inv .turned) (c .before .before .before .before .before .before .loop-test .taken) (rw (part (now (s .args .s)) (l .place)) at (c .before .before .before .before .sp-no .ensures)) (c .before .before .before .if1 .left))
+add-place c = let s = c .before .before .before .before .before .before .before .before .before in let l = c .before .before .before .before .before .before .before .loop in omega (arith, turned-fits _ _ _ _ (l .inv .turned) (c .before .before .before .before .before .before .loop-test .taken) (at-first (rw (part (now (s .args .s)) (l .place)) at (c .before .before .before .before .sp-no .ensures))) (c .before .before .before .if1 .left))
 
 add-k : tie.Need-add-k Inv-loop μ-loop
 add-k c = search needs

@@ -7,7 +7,7 @@ use mathlib.Core.Path.{sym, _∙_}
 use denote.Ref.{now}
 use lib.ListN.{getD}
 use Rattle.book.proofs.Tallies.{follows-low}
-use Rattle.book.proofs.Routes.{part, al-off, al-follows, al-route}
+use Rattle.book.proofs.Routes.{al-off, al-follows, al-route}
 use Rattle.book.proofs.record.al_no.Statement.{statement}
 use Rattle.book.proofs.record.al_no.Tie as tie
 
@@ -38,23 +38,16 @@ element-copy-out-a c = let s = c .before .before .before .before .before .before
 element-copy-out-b : tie.Need-element-copy-out-b
 element-copy-out-b c = let s = c .before .before .before .before .before .before .before .before in omega (arith, follows-low (s .args .tally .last) (s .args .tally .same) (s .args .tally .different) (s .args .tally .lightpaths) (getD (now (s .args .d)) 2 0) (sym (c .before .before .follows .ensures) ∙ not-false _ (c .before .if2 .left)) .0)
 
-sub-route-no : tie.Need-sub-route-no
-sub-route-no c = omega (arith, c .before .before .before .before .before .before .before .opened-no .ensures .whole (c .before .before .before .before .before .before .if1 .left))
-
-part-route-no-start : tie.Need-part-route-no-start
-part-route-no-start c = omega (arith, c .before .before .before .before .before .before .before .opened-no .ensures .whole (c .before .before .before .before .before .before .if1 .left))
-
-part-route-no-end : tie.Need-part-route-no-end
-part-route-no-end c = search needs
-
 route-no-requires : tie.Need-route-no-requires
-route-no-requires c κs = let s = c .before .before .before .before .before .before .before .before .before .before in (s .pre .0, s .pre .1, s .pre .2 .from-low (getD (now (s .args .d)) 2 0), s .pre .2 .to-low (getD (now (s .args .d)) 2 0))
+route-no-requires c κs =
+    let s = c .before .before .before .before .before .before .before .before .before in
+    let k = getD (now (s .args .d)) 2 0 in
+    (s .pre .0, s .pre .1, s .pre .2 .from-low k, s .pre .2 .to-low k, omega (arith, c .before .before .before .before .before .before .before .opened-no .ensures .whole (c .before .before .before .before .before .before .if1 .left)))
 
 returns-3 : tie.Need-returns-3
 returns-3 c =
-    let s = c .before .before .before .before .before .before .before .before .before .before .before in
-    al-route _ _ _ _ _ _ _ _ _ _ (c .before .before .before .before .before .before .before .before .before .opened-no .ensures) (c .before .before .before .before .before .before .before .before .if1 .left) (sym (c .before .before .before .before .before .follows .ensures) ∙ not-false _ (c .before .before .before .before .if2 .left))
-    (rw (part (now (s .args .d)) 4) at (c .route-no .ensures))
+    al-route _ _ _ _ _ _ _ _ _ _ (c .before .before .before .before .before .before .before .before .opened-no .ensures) (c .before .before .before .before .before .before .before .if1 .left)
+    (sym (c .before .before .before .before .follows .ensures) ∙ not-false _ (c .before .before .before .if2 .left)) (c .route-no .ensures)
 
 pub al-no-spec : {M : Type 1} → statement M
 al-no-spec =
@@ -69,8 +62,5 @@ al-no-spec =
     cast-i
     element-copy-out-a
     element-copy-out-b
-    sub-route-no
-    part-route-no-start
-    part-route-no-end
     route-no-requires
     returns-3)

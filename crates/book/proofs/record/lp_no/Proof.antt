@@ -1,5 +1,5 @@
 -- An LP record is its mark, three fixed fields, the test of its ends and a route, so it is one of the cases of proofs/Routes.antt.
--- The route starts five bytes on, and what is said of that part is said of the bytes dropped.
+-- The route starts five bytes on.
 use native.Mathlib.Omega.{arith}
 use borrow.Author.Needs.{needs}
 use borrow.Author.Tests.{not-true, not-false}
@@ -7,7 +7,7 @@ use mathlib.Core.Path.{sym, _∙_}
 use denote.Ref.{now}
 use lib.ListN.{getD}
 use Rattle.book.proofs.Stations.{ends-low}
-use Rattle.book.proofs.Routes.{part, lp-off, lp-ends, lp-route}
+use Rattle.book.proofs.Routes.{lp-off, lp-ends, lp-route}
 use Rattle.book.proofs.record.lp_no.Statement.{statement}
 use Rattle.book.proofs.record.lp_no.Tie as tie
 
@@ -32,27 +32,17 @@ ends-fit-requires c κs = search needs
 returns-2 : tie.Need-returns-2
 returns-2 c = lp-ends _ _ _ _ _ _ (c .before .before .before .before .before .before .opened-no .ensures) (c .before .before .before .before .before .if1 .left) (sym (c .before .ends-fit .ensures) ∙ not-true _ (c .if2 .taken))
 
-sub-route-no : tie.Need-sub-route-no
-sub-route-no c = omega (arith, c .before .before .before .before .before .before .opened-no .ensures .whole (c .before .before .before .before .before .if1 .left))
-
-part-route-no-start : tie.Need-part-route-no-start
-part-route-no-start c = omega (arith, c .before .before .before .before .before .before .opened-no .ensures .whole (c .before .before .before .before .before .if1 .left))
-
-part-route-no-end : tie.Need-part-route-no-end
-part-route-no-end c = search needs
-
 route-no-requires : tie.Need-route-no-requires
 route-no-requires c κs =
-    let s = c .before .before .before .before .before .before .before .before .before in
-    let t = sym (c .before .before .ends-fit .ensures) ∙ not-false _ (c .before .if2 .left) in
+    let s = c .before .before .before .before .before .before .before .before in
+    let t = sym (c .before .ends-fit .ensures) ∙ not-false _ (c .if2 .left) in
     let e = ends-low (s .args .nodes) (s .args .stations) (getD (now (s .args .d)) 2 0) (getD (now (s .args .d)) 3 0) t in
-    (s .pre .0, s .pre .1, omega (arith, e .0), omega (arith, e .1))
+    (s .pre .0, s .pre .1, omega (arith, e .0, e .1), omega (arith, e .0, e .1), omega (arith, c .before .before .before .before .before .before .opened-no .ensures .whole (c .before .before .before .before .before .if1 .left)))
 
 returns-3 : tie.Need-returns-3
 returns-3 c =
-    let s = c .before .before .before .before .before .before .before .before .before .before in
-    lp-route _ _ _ _ _ _ (c .before .before .before .before .before .before .before .before .opened-no .ensures) (c .before .before .before .before .before .before .before .if1 .left) (sym (c .before .before .before .ends-fit .ensures) ∙ not-false _ (c .before .before .if2 .left))
-    (rw (part (now (s .args .d)) 5) at (c .route-no .ensures))
+    lp-route _ _ _ _ _ _ (c .before .before .before .before .before .before .before .opened-no .ensures) (c .before .before .before .before .before .before .if1 .left)
+    (sym (c .before .before .ends-fit .ensures) ∙ not-false _ (c .before .if2 .left)) (c .route-no .ensures)
 
 pub lp-no-spec : {M : Type 1} → statement M
 lp-no-spec =
@@ -65,8 +55,5 @@ lp-no-spec =
     shared-slice-read-len
     ends-fit-requires
     returns-2
-    sub-route-no
-    part-route-no-start
-    part-route-no-end
     route-no-requires
     returns-3)

@@ -3,9 +3,8 @@
 //! Each row is measured in turns, the one and then the other, and the median of the turns is taken.
 
 mod baseline;
-mod books;
 
-use compare::face;
+use compare::{books, face};
 use std::hint::black_box;
 use std::time::Instant;
 

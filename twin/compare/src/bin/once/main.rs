@@ -1,11 +1,7 @@
 //! Calls one function of the proved library, once, on a full-size book: `once judge`, `once score` or `once search`. `./gristvalley count` runs it under a
 //! program that counts instructions.
 
-#[path = "../bench/books.rs"]
-#[allow(dead_code)] // the benchmark has more books
-mod books;
-
-use compare::face;
+use compare::{books, face};
 use std::hint::black_box;
 
 /// The trial limit of the search.

@@ -1,0 +1,21 @@
+-- Tests side by side: a disjunction is true exactly if one of its parts is, and two tests that are true together are one.
+-- The sides, the pieces and the ways are all computed by such tests.
+use mathlib.Core.Path.{_≡_, refl, sym, ap}
+use mathlib.Core.Logic.{_⊎_, inl, inr}
+use mathlib.Core.Bool.{Bool, true, false, _||_}
+
+pub or-l : {a : Bool} (b : Bool) → a ≡ true → (a || b) ≡ true
+or-l b e = ap (λ (q : Bool). q || b) e
+
+pub or-r : (a : Bool) {b : Bool} → b ≡ true → (a || b) ≡ true
+or-r true e = refl
+or-r false e = e
+
+pub or-inv : (a b : Bool) → (a || b) ≡ true → (a ≡ true) ⊎ (b ≡ true)
+or-inv true b e = inl refl
+or-inv false b e = inr e
+
+pub bool-iff : (a b : Bool) → (a ≡ true → b ≡ true) → (b ≡ true → a ≡ true) → a ≡ b
+bool-iff true b f g = sym (f refl)
+bool-iff false true f g = g refl
+bool-iff false false f g = refl
