@@ -1,9 +1,8 @@
 -- THE SECOND ENGINE'S VERDICT is that of the judgement: its pieces are made from single stations by merges, each of which leaves them holding together.
 -- Its loop ends with a pass that merges nothing, since each merge makes the sum of the labels less.
-use Prim.Native.Nat.{ℕ, zero, suc, _+_, _-_, _*_, _<_}
-use mathlib.Core.Path.{_≡_, refl, sym, ap, _∙_, subst}
-use mathlib.Core.Bool.{Bool, true, false, cond, false≢true}
-use native.Mathlib.Nat.{le-antisymm}
+use Prim.Native.Nat.{ℕ, zero, suc, _+_, _*_, _<_}
+use mathlib.Core.Path.{_≡_, refl, sym, ap, subst}
+use mathlib.Core.Bool.{Bool, true, false, cond}
 use native.Mathlib.Decide.{decLt}
 use native.Mathlib.Omega.{arith}
 use lib.Dec.{ltb}
@@ -17,7 +16,7 @@ use Rattle.judgement.specs.Contraction.{ringOf, merges, taken, merged, c
 use Rattle.judgement.specs.declared.Verdict.{Verdict}
 use Rattle.judgement.specs.declared.Verdict.the-variants.{Over}
 use Rattle.judgement.proofs.Sums.{sum-numbers}
-use Rattle.judgement.proofs.Lowest.{least-le, lowest-found, lowest-passes, lowest-none}
+use Rattle.judgement.proofs.Lowest.{lowest-passes, lowest-none}
 use Rattle.judgement.proofs.Pieces.{same-verdict}
 use Rattle.judgement.proofs.Rings.{merged-hold, singles-hold}
 use Rattle.judgement.proofs.Merges.{merges-inv, ring-is, merged-less}
@@ -36,12 +35,6 @@ pub taken-is : (m : RouteBook) (piece : ℕ → ℕ) → taken m piece < length 
 unfolding taken
 taken-is m piece l = lowest-passes (merges m piece) (length (m .lightpaths)) l
 
-taken-least : (m : RouteBook) (piece : ℕ → ℕ) (k : ℕ) → LeastMerges m piece k → taken m piece ≡ k
-unfolding taken
-taken-least m piece k t =
-    let w = lowest-found (merges m piece) (length (m .lightpaths)) k (t .below) (t .holds) in
-    le-antisymm (least-le w k (t .holds)) (least-le t (taken m piece) (w .holds))
-
 taken-none : (m : RouteBook) (piece : ℕ → ℕ) → (taken m piece < length (m .lightpaths) → ⊥) → (k : ℕ) → k < length (m .lightpaths) → merges m piece k ≡ false
 unfolding taken
 taken-none m piece h = lowest-none (merges m piece) (length (m .lightpaths)) h
@@ -49,29 +42,29 @@ taken-none m piece h = lowest-none (merges m piece) (length (m .lightpaths)) h
 -- one turn of the loop: a merge more, or the end
 module _ (m : RouteBook) (piece : ℕ → ℕ) where
   -- the labels after the merge of the lightpath that is taken
-  abbrev pub after : ℕ → ℕ
+  abbrev after : ℕ → ℕ
   after = merged m piece (ringOf m piece (taken m piece))
 
-  abbrev pub Takes : Type 0
+  abbrev Takes : Type 0
   Takes = taken m piece < length (m .lightpaths)
 
-  pub contract-next : (f : ℕ) → Takes → contract m (suc f) piece ≡ contract m f after
+  contract-next : (f : ℕ) → Takes → contract m (suc f) piece ≡ contract m f after
   unfolding contract
   contract-next f l = ap (λ (b : Bool). cond b (contract m f after) piece) (lt-ltb (taken m piece) (length (m .lightpaths)) l)
 
-  pub merges-next : (f : ℕ) → Takes → mergesIn m (suc f) piece ≡ suc (mergesIn m f after)
+  merges-next : (f : ℕ) → Takes → mergesIn m (suc f) piece ≡ suc (mergesIn m f after)
   unfolding mergesIn
   merges-next f l = ap (λ (b : Bool). cond b (suc (mergesIn m f after)) 0) (lt-ltb (taken m piece) (length (m .lightpaths)) l)
 
   ends : (Takes → ⊥) → ltb (taken m piece) (length (m .lightpaths)) ≡ false
   ends n = le-ltb (taken m piece) (length (m .lightpaths)) (omega (arith, n))
 
-  pub contract-end : (f : ℕ) → (Takes → ⊥) → contract m f piece ≡ piece
+  contract-end : (f : ℕ) → (Takes → ⊥) → contract m f piece ≡ piece
   unfolding contract
   contract-end zero n = refl
   contract-end (suc f) n = ap (λ (b : Bool). cond b (contract m f after) piece) (ends n)
 
-  pub merges-end : (f : ℕ) → (Takes → ⊥) → mergesIn m f piece ≡ 0
+  merges-end : (f : ℕ) → (Takes → ⊥) → mergesIn m f piece ≡ 0
   unfolding mergesIn
   merges-end zero n = refl
   merges-end (suc f) n = ap (λ (b : Bool). cond b (suc (mergesIn m f after)) 0) (ends n)
@@ -134,42 +127,3 @@ module _ (m : RouteBook) (good : wellFormed m ≡ true) where
   contracted-same =
       ap (λ (r : Verdict). firstOf (λ x. ltb (limit m x) (load m x)) (λ x. Over x (load m x) (limit m x)) r (length (m .spans)) 0)
       (same-verdict m good (pieces m) pieces-hold)
-
-  -- a loop that has come to the labels `piece` by n merges: what is left to merge makes the pieces, and there is enough left
-  pub record Merging (n : ℕ) (piece : ℕ → ℕ) : Type 0 where
-    pub made : Made m n piece
-    pub left : ℕ
-    pub enough : sum piece 64 < left
-    pub same : pieces m ≡ contract m left piece
-    pub count : mergesIn m (64 * 64) (λ i. i) ≡ n + mergesIn m left piece
-
-  pub merging-start : Merging 0 (λ i. i)
-  merging-start = record { made = singles; left = 64 * 64; enough = omega (arith, sum-numbers 64); same = refl; count = omega arith }
-
-  pub merging-next : {n : ℕ} {piece : ℕ → ℕ} → Merging n piece → (k : ℕ) → LeastMerges m piece k → Merging (suc n) (merged m piece (ringOf m piece k))
-  merging-next {n} {piece} w k t = record {
-    made = next (w .made) k t;
-    left = w .left - 1;
-    enough = omega (arith, w .enough, lighter (w .made) k t);
-    same = w .same ∙ ap (λ (f : ℕ). contract m f piece) one ∙ contract-next m piece (w .left - 1) l ∙ ap (contract m (w .left - 1)) now;
-    count = omega (arith, w .count, ap (λ (f : ℕ). mergesIn m f piece) one, merges-next m piece (w .left - 1) l, ap (mergesIn m (w .left - 1)) now);
-  }
-    where
-      one : w .left ≡ suc (w .left - 1)
-      one = omega (arith, w .enough)
-
-      is : taken m piece ≡ k
-      is = taken-least m piece k t
-
-      l : Takes m piece
-      l = subst (λ (j : ℕ). j < length (m .lightpaths)) (sym is) (t .below)
-
-      now : after m piece ≡ merged m piece (ringOf m piece k)
-      now = ap (λ (j : ℕ). merged m piece (ringOf m piece j)) is
-
-  -- THE LAW: where no lightpath merges any more the labels are the pieces, and the merges are counted
-  pub merging-end : {n : ℕ} {piece : ℕ → ℕ} → Merging n piece → Done piece → (pieces m ≡ piece) × (mergesIn m (64 * 64) (λ i. i) ≡ n)
-  merging-end {n} {piece} w d = (w .same ∙ contract-end m piece (w .left) over, omega (arith, w .count, merges-end m piece (w .left) over))
-    where
-      over : Takes m piece → ⊥
-      over l = false≢true (sym (d (taken m piece) l) ∙ taken-is m piece l .holds)

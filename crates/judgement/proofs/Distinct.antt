@@ -1,6 +1,6 @@
 -- The way that is taken uses no lightpath twice: each step leaves for good what is that far from the end, and a lightpath used later has both its ends nearer.
 -- So a ring counts each of its lightpaths once.
-use Prim.Native.Nat.{ℕ, zero, suc, _<_}
+use Prim.Native.Nat.{ℕ, zero, suc}
 use mathlib.Core.Path.{_≡_, refl, sym, ap, _∙_, subst}
 use mathlib.Core.List.{List, [], _∷_}
 use mathlib.Core.Logic.{_⊎_, inl, inr, ⊎-elim}
@@ -16,12 +16,7 @@ pub way-free : (net : Network) (free : ℕ → Bool) {x y : ℕ} {ks : List ℕ}
 way-free net free (hop l f r w) k now = f
 way-free net free (hop l f r w) k (later i) = way-free net free w k i
 
--- and is a lightpath that there is
-pub way-below : (net : Network) (free : ℕ → Bool) {x y : ℕ} {ks : List ℕ} → Way net free x ks y → (k : ℕ) → In k ks → k < net .count
-way-below net free (hop l f r w) k now = l
-way-below net free (hop l f r w) k (later i) = way-below net free w k i
-
-pub in-cons : {k j : ℕ} {ks : List ℕ} → In k (j ∷ ks) → (k ≡ j) ⊎ In k ks
+in-cons : {k j : ℕ} {ks : List ℕ} → In k (j ∷ ks) → (k ≡ j) ⊎ In k ks
 in-cons now = inl refl
 in-cons (later i) = inr i
 

@@ -5,7 +5,6 @@ use mathlib.Core.Path.{_≡_, refl, sym, ap, _∙_, subst}
 use mathlib.Core.Logic.{_⊎_, inl, inr, ⊎-elim, _↔_}
 use mathlib.Core.Bool.{Bool, true, false, cond, _&&_, _||_}
 use native.Mathlib.Nat.{le-refl, le-trans, le-antisymm}
-use native.Mathlib.Numerals.{add-one}
 use native.Mathlib.Omega.{arith}
 use native.Mathlib.Decide.{ℕ-discrete}
 use lib.Dec.{eqb}
@@ -14,7 +13,7 @@ use borrow.Author.Tests.{eqb-true, eqb-false}
 use Rattle.book.specs.Bits.{has, bit, put}
 use Rattle.book.proofs.Bits.{bit-iff, bit-ext, has-true, true-has, bit-one, bit-other, put-same, put-keeps, put-inv, put-lt, put-le}
 use Rattle.book.proofs.Tests.{and-inv}
-use Rattle.judgement.specs.Network.{Network, Link, Joined, start, more, brought, grown, swept, settled, sideOf}
+use Rattle.judgement.specs.Network.{Network, Link, Joined, start, more, grown, swept, settled, sideOf}
 use Rattle.judgement.proofs.Tests.{or-l, or-r, or-inv}
 
 module _ (net : Network) (up : ℕ → Bool) where

@@ -3,7 +3,7 @@
 use Prim.Native.Nat.{ℕ, _<_, _≤_}
 use mathlib.Core.Path.{_≡_, refl, sym, ap, _∙_, subst}
 use mathlib.Core.List.{List, _∷_}
-use mathlib.Core.Logic.{inl, inr, ⊎-elim, _↔_}
+use mathlib.Core.Logic.{inl, inr, _↔_}
 use mathlib.Core.Bool.{Bool, true, false, cond, not, false≢true}
 use native.Mathlib.Omega.{arith}
 use native.Mathlib.Decide.{decLt}
@@ -17,7 +17,7 @@ use Rattle.book.proofs.Tests.{and-inv}
 use Rattle.judgement.specs.Network.{Network}
 use Rattle.judgement.specs.Judgement.{sum, rides, network, allUp}
 use Rattle.judgement.specs.Pieces.{over}
-use Rattle.judgement.specs.Ways.{Lex, none, less, same, Before, In, Distinct, extra, Way, here, hop, way}
+use Rattle.judgement.specs.Ways.{Lex, none, less, same, Before, Distinct, extra, Way, here, hop, way}
 use Rattle.judgement.specs.Contraction.{lost, touches, others, round, ringOf, merges, lowestLabel, merged}
 use Rattle.judgement.proofs.Tests.{or-l, or-r}
 use Rattle.judgement.proofs.Sums.{sum-less}
@@ -26,7 +26,7 @@ use Rattle.judgement.proofs.Merging.{every-at}
 use Rattle.judgement.proofs.Rings.{Ring, lowest-label}
 use Rattle.judgement.proofs.FirstWays.{way-is, way-before}
 use Rattle.judgement.proofs.Rounds.{near-all}
-use Rattle.judgement.proofs.Distinct.{way-free, way-below, in-cons, way-distinct}
+use Rattle.judgement.proofs.Distinct.{way-free, way-distinct}
 
 -- of two lists that each come before the other the one is the other
 lex-once : {ks js : List ℕ} → Lex ks js → Lex js ks → ks ≡ js
@@ -102,13 +102,6 @@ module _ (m : RouteBook) (piece : ℕ → ℕ) where
                 (way-distinct net (others m piece k) to 64 from (true-has _ _ h));
           },
         )
-
-    -- all of the ring are lightpaths that there are
-    pub ring-below : k < length (m .lightpaths) → round m piece k ≡ true → (j : ℕ) → In j (ringOf m piece k) → j < length (m .lightpaths)
-    ring-below l h j i =
-        let w = ring-first h in
-        ⊎-elim (λ e. subst (λ (n : ℕ). n < length (m .lightpaths)) (sym e) l)
-        (λ q. way-below net (others m piece k) (w .2 .runs) j q) (in-cons (subst (In j) (w .1) i))
 
     -- it touches the pieces of k's ends
     pub touch-from : touches (over (network m) piece) (ringOf m piece k) (piece (network m .from k)) ≡ true

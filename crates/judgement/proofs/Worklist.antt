@@ -1,18 +1,18 @@
 -- THE SIDE, NODE BY NODE: of a growing set a part has been looked at, and whatever one lightpath leads to from that part is in the set. When the part is
 -- the whole set no lightpath leaves it, so it is the side; and each turn looks at a node that was not looked at, so there are no more turns than nodes.
-use Prim.Native.Nat.{ℕ, _+_, _-_, _^_, _<_, _≤_, max}
-use mathlib.Core.Path.{_≡_, refl, sym, ap, _∙_, subst}
+use Prim.Native.Nat.{ℕ, _-_, _^_, _<_}
+use mathlib.Core.Path.{_≡_, sym, subst}
 use mathlib.Core.List.{List}
 use mathlib.Core.Logic.{_⊎_, inl, inr, ⊎-elim}
-use mathlib.Core.Bool.{Bool, true}
+use mathlib.Core.Bool.{Bool}
 use native.Mathlib.Decide.{ℕ-discrete}
 use native.Mathlib.Omega.{arith}
-use lib.Bits.{bitOr, bitXor, or-lt, xor-lt}
+use lib.Bits.{bitOr, bitXor, or-lt}
 use lib.Count.{trailingZeros}
 use lib.ListN.{getD}
 use lib.Pow.{pow-pos}
 use Rattle.book.specs.Bits.{bit, put}
-use Rattle.book.proofs.Bits.{bit-lt, bit-or, bit-ext, bit-of-zero, put-same, put-other, put-inv, put-lt}
+use Rattle.book.proofs.Bits.{bit-lt, bit-or, bit-of-zero, put-inv, put-lt}
 use Rattle.judgement.specs.Network.{Network, Link, Joined, more, sideOf}
 use Rattle.judgement.specs.Inside.{Leads, size}
 use Rattle.judgement.proofs.Sets.{beyond-lt, beyond-in, size-put, size-few}
