@@ -145,6 +145,10 @@ impl Holding<'_> {
             let contracted = twin::contract(self.bytes, choice);
             self.count_pieces(&contracted);
             let contracted = wanted::contracted(contracted);
+            if contracted[..7] != judged[..7] {
+                self.differences
+                    .push(format!("contract {choice} is not judge {choice}"));
+            }
             self.same("contract", &[choice], contracted, |s, out| {
                 face::contract(s, choice, out)
             });
