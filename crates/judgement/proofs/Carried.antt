@@ -28,7 +28,8 @@ use Rattle.judgement.specs.Merge.{but, seenBy, withPath, gathered, empty
 use Rattle.judgement.specs.declared.ring.Carried.{Carried}
 use Rattle.judgement.specs.declared.ring.Trail.{Trail}
 use Rattle.judgement.proofs.Held.{route-rides}
-use Rattle.judgement.proofs.Merging.{or-none, one-more, way-under, Seen, seen-none, seen-more, lost-bit, lost-alike, lost-none, every-true, every-at}
+use Rattle.judgement.proofs.Lowest.{every-true, every-at}
+use Rattle.judgement.proofs.Merging.{or-none, one-more, way-under, Seen, seen-none, seen-more, lost-bit, lost-alike, lost-none}
 
 has-put : (x i j : ℕ) → has (put x i) j ≡ (eqb i j || has x j)
 unfolding has

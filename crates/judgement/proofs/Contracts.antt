@@ -42,29 +42,29 @@ taken-none m piece h = lowest-none (merges m piece) (length (m .lightpaths)) h
 -- one turn of the loop: a merge more, or the end
 module _ (m : RouteBook) (piece : ℕ → ℕ) where
   -- the labels after the merge of the lightpath that is taken
-  abbrev after : ℕ → ℕ
+  abbrev pub after : ℕ → ℕ
   after = merged m piece (ringOf m piece (taken m piece))
 
   abbrev Takes : Type 0
   Takes = taken m piece < length (m .lightpaths)
 
-  contract-next : (f : ℕ) → Takes → contract m (suc f) piece ≡ contract m f after
+  pub contract-next : (f : ℕ) → Takes → contract m (suc f) piece ≡ contract m f after
   unfolding contract
   contract-next f l = ap (λ (b : Bool). cond b (contract m f after) piece) (lt-ltb (taken m piece) (length (m .lightpaths)) l)
 
-  merges-next : (f : ℕ) → Takes → mergesIn m (suc f) piece ≡ suc (mergesIn m f after)
+  pub merges-next : (f : ℕ) → Takes → mergesIn m (suc f) piece ≡ suc (mergesIn m f after)
   unfolding mergesIn
   merges-next f l = ap (λ (b : Bool). cond b (suc (mergesIn m f after)) 0) (lt-ltb (taken m piece) (length (m .lightpaths)) l)
 
   ends : (Takes → ⊥) → ltb (taken m piece) (length (m .lightpaths)) ≡ false
   ends n = le-ltb (taken m piece) (length (m .lightpaths)) (omega (arith, n))
 
-  contract-end : (f : ℕ) → (Takes → ⊥) → contract m f piece ≡ piece
+  pub contract-end : (f : ℕ) → (Takes → ⊥) → contract m f piece ≡ piece
   unfolding contract
   contract-end zero n = refl
   contract-end (suc f) n = ap (λ (b : Bool). cond b (contract m f after) piece) (ends n)
 
-  merges-end : (f : ℕ) → (Takes → ⊥) → mergesIn m f piece ≡ 0
+  pub merges-end : (f : ℕ) → (Takes → ⊥) → mergesIn m f piece ≡ 0
   unfolding mergesIn
   merges-end zero n = refl
   merges-end (suc f) n = ap (λ (b : Bool). cond b (suc (mergesIn m f after)) 0) (ends n)
@@ -94,7 +94,7 @@ module _ (m : RouteBook) (good : wellFormed m ≡ true) where
 
   -- each merge makes the sum of the labels less
   lighter : {n : ℕ} {piece : ℕ → ℕ} → Made m n piece → (k : ℕ) → LeastMerges m piece k → sum (merged m piece (ringOf m piece k)) 64 < sum piece 64
-  lighter {piece = piece} a k t = merged-less m good piece (made-hold a .low) k (t .below) (merges-inv m piece k (t .holds))
+  lighter {piece = piece} a k t = merged-less m good piece k (t .below) (merges-inv m piece k (t .holds))
 
   abbrev pub Done : (ℕ → ℕ) → Type 0
   Done piece = (k : ℕ) → k < length (m .lightpaths) → merges m piece k ≡ false

@@ -1,23 +1,23 @@
 -- THE LOOP of the second engine: after so many merges, the pieces that the definition ends with are those that it makes of the present ones.
 -- Each merge makes the sum of the labels less, so that there are fewer merges than the definition allows.
-use Prim.Native.Nat.{ℕ, zero, suc, _+_, _-_, _<_, _≤_}
+use Prim.Native.Nat.{ℕ, suc, _+_, _-_, _<_, _≤_}
 use mathlib.Core.Path.{_≡_, refl, sym, ap, _∙_, subst}
 use mathlib.Core.List.{List}
-use mathlib.Core.Bool.{Bool, true, false, cond, false≢true}
+use mathlib.Core.Bool.{true, false, cond, false≢true}
 use native.Mathlib.Nat.{le-refl}
 use native.Mathlib.Decide.{decLt}
 use native.Mathlib.Omega.{arith}
 use lib.Count.{trailingZeros}
 use lib.Dec.{ltb}
 use lib.ListN.{length, getD}
-use borrow.Author.Tests.{ltb-true}
+use borrow.Author.Tests.{ltb-true, ltb-false}
 use Rattle.book.specs.declared.Book.{Book}
 use Rattle.book.specs.Book.{RouteBook, wellFormed}
 use Rattle.book.specs.Memory.{bookOf}
 use Rattle.judgement.specs.Network.{Network}
 use Rattle.judgement.specs.Judgement.{network, lowest, firstOf, sum}
 use Rattle.judgement.specs.Pieces.{over}
-use Rattle.judgement.specs.Contraction.{ringOf, merges, taken, merged, contract, mergesIn}
+use Rattle.judgement.specs.Contraction.{merges, taken, contract, mergesIn}
 use Rattle.judgement.specs.Inside.{netOf, Fits}
 use Rattle.judgement.specs.Merge.{Table, relabelled, Labelled, PiecesOf, trailOf, mergesBy, ringAt}
 use Rattle.judgement.specs.declared.ring.Ring.{Ring}
@@ -25,39 +25,12 @@ use Rattle.judgement.specs.declared.ring.Ring.the-variants.{Sparing, Not
 use Rattle.judgement.proofs.First.{first-alike}
 use Rattle.judgement.proofs.Sums.{sum-most}
 use Rattle.judgement.proofs.Stations.{lowest-least}
-use Rattle.judgement.proofs.Merging.{lowest-passes, first-lowest, ring-less}
+use Rattle.judgement.proofs.Lowest.{first-lowest}
+use Rattle.judgement.proofs.Merges.{merges-inv, merged-less}
+use Rattle.judgement.proofs.Contracts.{after, taken-is, contract-next, merges-next, contract-end, merges-end}
 use Rattle.judgement.proofs.Trails.{ring-hit, ring-miss, ring-same}
 use Rattle.judgement.proofs.Carried.{merges-is}
 use Rattle.judgement.proofs.LabelArrays.{label-low, net-is, labels-fit, ring-labelled}
-
--- one merge more, or none
-module _ (m : RouteBook) (piece : ℕ → ℕ) where
-  abbrev after : ℕ → ℕ
-  after = merged m piece (ringOf m piece (taken m piece))
-
-  module _ (e : ltb (taken m piece) (length (m .lightpaths)) ≡ true) where
-    contract-next : (f : ℕ) → contract m (suc f) piece ≡ contract m f after
-    unfolding contract
-    contract-next f = ap (λ (b : Bool). cond b (contract m f after) piece) e
-
-    count-next : (f : ℕ) → mergesIn m (suc f) piece ≡ suc (mergesIn m f after)
-    unfolding mergesIn
-    count-next f = ap (λ (b : Bool). cond b (suc (mergesIn m f after)) 0) e
-
-    taken-merges : merges m piece (taken m piece) ≡ true
-    unfolding taken
-    taken-merges = lowest-passes (merges m piece) (length (m .lightpaths)) (ltb-true _ _ e)
-
-  module _ (e : ltb (taken m piece) (length (m .lightpaths)) ≡ false) where
-    contract-stop : (f : ℕ) → contract m f piece ≡ piece
-    unfolding contract
-    contract-stop zero = refl
-    contract-stop (suc f) = ap (λ (b : Bool). cond b (contract m f after) piece) e
-
-    count-stop : (f : ℕ) → mergesIn m f piece ≡ 0
-    unfolding mergesIn
-    count-stop zero = refl
-    count-stop (suc f) = ap (λ (b : Bool). cond b (suc (mergesIn m f after)) 0) e
 
 -- what holds after so many merges
 pub record Going (m : RouteBook) (label : List ℕ) (made : ℕ) : Type 0 where
@@ -124,22 +97,23 @@ module _ (m : RouteBook) (fits : wellFormed m ≡ true) where
       going-next {s} {label′} is u =
           let hit = ring-hit (ltb next (length (m .lightpaths))) (trailOf net (bookOf m .low) (bookOf m .high) next .touched) (sym is ∙ ring-is) in
           let l = ltb-true next (length (m .lightpaths)) (hit .0) in
-          let ring = taken-merges m (now .piece) (hit .0) in
+          let ring = taken-is m (now .piece) l .holds in
           let z : 4096 - made ≡ suc (4096 - (made + 1)) = omega (arith, now .light) in
           record {
             piece = after m (now .piece);
             labelled = ring-labelled m fits (now .piece) (now .labelled) next l ring (bookOf m .low) (bookOf m .high) (ring-same (hit .1)) u;
-            left = sym (contract-next m (now .piece) (hit .0) (4096 - (made + 1))) ∙ ap (λ (d : ℕ). contract m d (now .piece)) (sym z) ∙ now .left;
-            count = omega (arith, now .count, count-next m (now .piece) (hit .0) (4096 - (made + 1)), ap (λ (d : ℕ). mergesIn m d (now .piece)) z);
-            light = omega (arith, now .light, ring-less m fits (now .piece) next l ring);
+            left = sym (contract-next m (now .piece) (4096 - (made + 1)) l) ∙ ap (λ (d : ℕ). contract m d (now .piece)) (sym z) ∙ now .left;
+            count = omega (arith, now .count, merges-next m (now .piece) (4096 - (made + 1)) l, ap (λ (d : ℕ). mergesIn m d (now .piece)) z);
+            light = omega (arith, now .light, merged-less m fits (now .piece) next l (merges-inv m (now .piece) next ring));
           }
 
       pub going-done : r ≡ Nothing → PiecesOf m (record { label = label; merges = made })
       going-done is =
           let miss = ring-miss (ltb next (length (m .lightpaths))) (trailOf net (bookOf m .low) (bookOf m .high) next .touched) (sym is ∙ ring-is) in
+          let over : next < length (m .lightpaths) → ⊥ = λ q. omega (arith, ltb-false next (length (m .lightpaths)) miss) in
           record {
-            labelled = subst (λ (p : ℕ → ℕ). Labelled m p label) (sym (contract-stop m (now .piece) miss (4096 - made)) ∙ now .left) (now .labelled);
-            counted = omega (arith, now .count, count-stop m (now .piece) miss (4096 - made));
+            labelled = subst (λ (p : ℕ → ℕ). Labelled m p label) (sym (contract-end m (now .piece) (4096 - made) over) ∙ now .left) (now .labelled);
+            counted = omega (arith, now .count, merges-end m (now .piece) (4096 - made) over);
           }
 
   -- the sum of the labels leaves room for one merge more

@@ -184,6 +184,15 @@ module _ (net : Network) (free : ℕ → Bool) where
             least = λ j z a r b. least-le f j (leads-in x (near net free y n) j z a r b);
           }
 
+  -- the way by one round more
+  pub way-stay : (y n x : ℕ) → has (near net free y n) x ≡ true → way net free y (suc n) x ≡ way net free y n x
+  unfolding way
+  way-stay y n x h = ap (λ (b : Bool). cond b (way net free y n x) (stepOf y n x ∷ way net free y n (stepTo y n x))) h
+
+  pub way-step : (y n x : ℕ) → has (near net free y n) x ≡ false → way net free y (suc n) x ≡ stepOf y n x ∷ way net free y n (stepTo y n x)
+  unfolding way
+  way-step y n x h = ap (λ (b : Bool). cond b (way net free y n x) (stepOf y n x ∷ way net free y n (stepTo y n x))) h
+
   -- the way that is taken is a way of at most n lightpaths
   pub record IsWay (x y n : ℕ) (ks : List ℕ) : Type 0 where
     pub runs : Way net free x ks y

@@ -31,7 +31,9 @@ use Rattle.judgement.proofs.First.{there, nowhere, first-only}
 use Rattle.judgement.proofs.Sets.{low-in, low-below}
 use Rattle.judgement.proofs.Stations.{lowest-lt}
 use Rattle.judgement.proofs.Tests.{or-inv}
-use Rattle.judgement.proofs.Merging.{Under, nothing, one-more, lowest-passes, under, ring-le}
+use Rattle.judgement.proofs.Lowest.{lowest-passes}
+use Rattle.judgement.proofs.Merges.{merged-le}
+use Rattle.judgement.proofs.Merging.{Under, nothing, one-more, under}
 use Rattle.judgement.proofs.Carried.{touched-is}
 
 module _ (n : ℕ) (f : ℕ → ℕ) where
@@ -144,7 +146,7 @@ module _ (m : RouteBook) (fits : wellFormed m ≡ true) (piece : ℕ → ℕ) {l
   lowest-above = go (decLt (lowestOf (touches net (ringOf m piece k)) 64) 64)
     where
       go : Dec (lowestOf (touches net (ringOf m piece k)) 64 < 64) → lowest m ≤ lowestOf (touches net (ringOf m piece k)) 64
-      go (yes q) = touch-above (under m fits piece k l ring) _ (lowest-passes (touches net (ringOf m piece k)) 64 q)
+      go (yes q) = touch-above (under m piece k l ring) _ (lowest-passes (touches net (ringOf m piece k)) 64 q .holds)
       go (no q) = omega (arith, lowest-lt m fits)
 
   -- THE LAW of a merge: the relabelled array has the merged labels
@@ -157,7 +159,7 @@ module _ (m : RouteBook) (fits : wellFormed m ≡ true) (piece : ℕ → ℕ) {l
       record {
         long = t .long;
         same = λ i q. t .each i q ∙ rw (now .same i q, same (piece i), z);
-        falls = λ i. omega (arith, ring-le m fits piece k l ring i, now .falls i);
+        falls = λ i. omega (arith, merged-le m fits piece k l i, now .falls i);
         above = λ i h. go i h (touches net (ringOf m piece k) (piece i));
       }
     where

@@ -21,9 +21,8 @@ use Rattle.judgement.specs.Ways.{Lex, none, less, same, Before, Distinct
 use Rattle.judgement.specs.Contraction.{lost, touches, others, round, ringOf, merges, lowestLabel, merged}
 use Rattle.judgement.proofs.Tests.{or-l, or-r}
 use Rattle.judgement.proofs.Sums.{sum-less}
-use Rattle.judgement.proofs.Lowest.{least-le}
-use Rattle.judgement.proofs.Merging.{every-at}
-use Rattle.judgement.proofs.Rings.{Ring, lowest-label}
+use Rattle.judgement.proofs.Lowest.{lowest-le, every-at}
+use Rattle.judgement.proofs.Rings.{Ring}
 use Rattle.judgement.proofs.FirstWays.{way-is, way-before}
 use Rattle.judgement.proofs.Rounds.{near-all}
 use Rattle.judgement.proofs.Distinct.{way-free, way-distinct}
@@ -140,6 +139,7 @@ module _ (m : RouteBook) (good : wellFormed m ≡ true) (piece : ℕ → ℕ) (l
     spared = h .spared;
   }
 
+module _ (m : RouteBook) (good : wellFormed m ≡ true) (piece : ℕ → ℕ) (k : ℕ) (l : k < length (m .lightpaths)) where
   abbrev ring : List ℕ
   ring = ringOf m piece k
 
@@ -147,13 +147,13 @@ module _ (m : RouteBook) (good : wellFormed m ≡ true) (piece : ℕ → ℕ) (l
   touched = touches (over (network m) piece) ring
 
   -- the labels only fall
-  merged-le : (i : ℕ) → i < 64 → merged m piece ring i ≤ piece i
-  unfolding merged
-  merged-le i q = turn (touched (piece i)) refl
+  pub merged-le : (i : ℕ) → merged m piece (ringOf m piece k) i ≤ piece i
+  unfolding merged lowestLabel
+  merged-le i = turn (touched (piece i)) refl
     where
       turn : (b : Bool) → touches (over (network m) piece) (ringOf m piece k) (piece i) ≡ b
           → cond b (lowestLabel m piece (ringOf m piece k)) (piece i) ≤ piece i
-      turn true e = least-le (lowest-label m piece low ring i q e) (piece i) e
+      turn true e = lowest-le touched 64 (piece i) e
       turn false e = omega arith
 
   -- THE LAW: so the sum of the labels is less
@@ -161,10 +161,10 @@ module _ (m : RouteBook) (good : wellFormed m ≡ true) (piece : ℕ → ℕ) (l
   merged-less h = turn (decLt (merged m piece ring (network m .from k)) (piece (network m .from k)))
     where
       turn : Dec (merged m piece (ringOf m piece k) (network m .from k) < piece (network m .from k)) → sum (merged m piece (ringOf m piece k)) 64 < sum piece 64
-      turn (yes q) = sum-less _ piece 64 (network m .from k) merged-le (ends-lt m good k l .0) q
-      turn (no q) = sum-less _ piece 64 (network m .to k) merged-le (ends-lt m good k l .1)
+      turn (yes q) = sum-less _ piece 64 (network m .from k) (λ i q. merged-le i) (ends-lt m good k l .0) q
+      turn (no q) = sum-less _ piece 64 (network m .to k) (λ i q. merged-le i) (ends-lt m good k l .1)
           (let a = merged-at m piece k (network m .from k) (touch-from m piece k) in
           let b = merged-at m piece k (network m .to k) (touch-to m piece k) in
-          let c = merged-le (network m .from k) (ends-lt m good k l .0) in
-          let d = merged-le (network m .to k) (ends-lt m good k l .1) in
+          let c = merged-le (network m .from k) in
+          let d = merged-le (network m .to k) in
           omega (arith, h .parts))

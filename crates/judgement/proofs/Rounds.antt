@@ -2,7 +2,7 @@
 -- every way that there is. Where a round adds nothing the search is over, and once x is found the way from it is the same whatever rounds follow.
 use Prim.Native.Nat.{ℕ, zero, suc, _<_, _≤_, _^_}
 use mathlib.Core.Path.{_≡_, refl, sym, ap, _∙_, subst}
-use mathlib.Core.List.{List, _∷_}
+use mathlib.Core.List.{List}
 use mathlib.Core.Logic.{_⊎_, inl, inr}
 use mathlib.Core.Bool.{Bool, true, false, cond, _&&_, _||_}
 use native.Mathlib.Omega.{arith}
@@ -15,7 +15,7 @@ use Rattle.judgement.specs.Network.{Network}
 use Rattle.judgement.specs.Inside.{size}
 use Rattle.judgement.specs.Ways.{Before, Way, here, hop, widen, near, way}
 use Rattle.judgement.proofs.Sets.{size-le, size-same, size-few, size-some}
-use Rattle.judgement.proofs.FirstWays.{near-kept, near-start, near-step, stepOf, stepTo, way-is, way-before}
+use Rattle.judgement.proofs.FirstWays.{near-kept, near-start, near-step, way-stay, way-is, way-before}
 
 -- what holds of round d and is handed on holds of every later round
 later : (P : ℕ → Type 0) (d : ℕ) → P d → ((n : ℕ) → d ≤ n → P n → P (suc n)) → (n : ℕ) → d ≤ n → P n
@@ -27,17 +27,12 @@ later P d h f (suc n) l = turn (λ q. later P d h f n q) (ℕ-discrete d (suc n)
     turn ih (no z) = let q : d ≤ n = omega arith in f n q (ih q)
 
 module _ (net : Network) (free : ℕ → Bool) (y : ℕ) where
-  way-same : (n x : ℕ) → bit (near net free y n) x ≡ 1 → way net free y (suc n) x ≡ way net free y n x
-  unfolding way
-  way-same n x h =
-      ap (λ (b : Bool). cond b (way net free y n x) (stepOf net free y n x ∷ way net free y n (stepTo net free y n x))) (has-true (near net free y n) x h)
-
   -- THE LAW of a round that finds x: more rounds find it too, and the way is the same
   abbrev Met : ℕ → ℕ → ℕ → Type 0
   Met d x n = (bit (near net free y n) x ≡ 1) × (way net free y n x ≡ way net free y d x)
 
   pub met : (d x : ℕ) → bit (near net free y d) x ≡ 1 → (n : ℕ) → d ≤ n → (bit (near net free y n) x ≡ 1) × (way net free y n x ≡ way net free y d x)
-  met d x h = later (Met d x) d (h, refl) (λ n l r. (near-kept net free y n x (r .0), way-same n x (r .0) ∙ r .1))
+  met d x h = later (Met d x) d (h, refl) (λ n l r. (near-kept net free y n x (r .0), way-stay net free y n x (has-true (near net free y n) x (r .0)) ∙ r .1))
 
   -- THE LAW of a round that adds nothing: nor does a later one
   pub ended : (d : ℕ) → near net free y (suc d) ≡ near net free y d → (n : ℕ) → d ≤ n → near net free y n ≡ near net free y d

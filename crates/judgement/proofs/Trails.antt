@@ -21,7 +21,8 @@ use Rattle.judgement.specs.declared.ways.Rounds.{Rounds}
 use Rattle.judgement.specs.declared.ring.Trail.{Trail}
 use Rattle.judgement.specs.declared.ring.Ring.{Ring}
 use Rattle.judgement.specs.declared.ring.Ring.the-variants.{Sparing, Nothing}
-use Rattle.judgement.proofs.Merging.{stepOf, step-is, way-stay, way-step, met, ended}
+use Rattle.judgement.proofs.FirstWays.{stepOf, step-is, way-stay, way-step}
+use Rattle.judgement.proofs.Rounds.{met, ended}
 
 -- one lightpath of a round
 pub widen-step : (net : Network) (free : ℕ → Bool) (old k : ℕ)
@@ -81,6 +82,7 @@ module _ (net : Network) (free : ℕ → Bool) (y : ℕ) where
           told (has-true _ x (met net free y last x (true-has _ x z) 64 (now .few) .0) ∙ sym z)
 
       pub rounding-same : widen net free side (net .count) ≡ side → RoundsTo net free y x (record { sets = sets; last = last })
+      unfolding near
       rounding-same h = told (ap (λ (m : ℕ). has m x) (ended net free y last (subst (λ (m : ℕ). widen net free m (net .count) ≡ m) (now .is) h) 64 (now .few)))
 
       pub rounding-all : 64 ≤ last → RoundsTo net free y x (record { sets = sets; last = last })
@@ -120,7 +122,7 @@ module _ (net : Network) (low high : List ℕ) (k : ℕ) where
       → stepOf net (but k) (net .to k) (left - 1) (t .at) < net .count
   trailing-leads {last} {left} {t} now l e =
       let z : left ≡ suc (left - 1) = omega arith in
-      step-is net (but k) (net .to k) (left - 1) (t .at) e (subst (λ (n : ℕ). bit (near net (but k) (net .to k) n) (t .at) ≡ 1) z (now .met)) .0
+      step-is net (but k) (net .to k) (left - 1) (t .at) e (subst (λ (n : ℕ). bit (near net (but k) (net .to k) n) (t .at) ≡ 1) z (now .met)) .below
 
   trailing-suc : {last n : ℕ} {t : Trail} → ((j : ℕ) → (net .from j < 64) × (net .to j < 64)) → Trailing last (suc n) t
       → (b : Bool) → has (near net (but k) (net .to k) n) (t .at) ≡ b
@@ -137,7 +139,7 @@ module _ (net : Network) (low high : List ℕ) (k : ℕ) where
       record {
         few = omega (arith, now .few);
         at-low = low-end (eqb (net .from (stepOf net (but k) (net .to k) n (t .at))) (t .at)) (ends (stepOf net (but k) (net .to k) n (t .at)));
-        met = s .1;
+        met = s .led .into;
         rest = ap (λ (ks : List ℕ). gathered net low high ks t) (sym (way-step net (but k) (net .to k) n (t .at) e)) ∙ now .rest;
       }
     where
