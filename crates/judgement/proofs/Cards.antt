@@ -17,10 +17,9 @@ use Rattle.book.proofs.Cards.{E}
 use Rattle.judgement.specs.Network.{brought, grown, swept, settled, sideOf}
 use Rattle.judgement.specs.Judgement.{sum, load, firstOf}
 use Rattle.judgement.specs.Withdrawn.{noneOf}
-use Rattle.judgement.specs.Answers.{judgedOf, scoredOf, askedOf, askedSetOf}
+use Rattle.judgement.specs.Answers.{judgedOf, askedOf, askedSetOf}
 use Rattle.judgement.specs.declared.Verdict.the-variants.{Over, Split, Cut, Okay}
 use Rattle.judgement.specs.declared.Judged.the-variants as judged
-use Rattle.judgement.specs.declared.Scored.the-variants as scored
 use Rattle.judgement.specs.declared.Asked.the-variants as asked
 
 -- the loads of the five spans of a book
@@ -28,25 +27,21 @@ abbrev loadsOf : Reading → List ℕ
 loadsOf (good m) = load m 0 ∷ load m 1 ∷ load m 2 ∷ load m 3 ∷ load m 4 ∷ []
 loadsOf (refused k p) = []
 
-pub P1 : (loadsOf (chosenOf (reading E) 0) ≡ 1 ∷ 1 ∷ 2 ∷ 0 ∷ 1 ∷ []) × (judgedOf (chosenOf (reading E) 0) ≡ judged.Told (Cut 2 7))
+pub P1 : (loadsOf (chosenOf (reading E) 0) ≡ 1 ∷ 1 ∷ 2 ∷ 0 ∷ 1 ∷ []) × (judgedOf (chosenOf (reading E) 0) ≡ judged.Told (Cut 2 7) 2 0)
 unfolding reading book each opened below some count different walks lengthFits spanEnds lightpathEnds follows bit has put stationsInto padded movableFrom product digits digitFor alternativesOf rerouted brought grown swept settled sideOf sum firstOf trailingZeros
 P1 = (refl, refl)
 
-pub P2 : (loadsOf (chosenOf (reading E) 1) ≡ 1 ∷ 1 ∷ 1 ∷ 1 ∷ 0 ∷ []) × (judgedOf (chosenOf (reading E) 1) ≡ judged.Told Okay) × (judgedOf (chosenOf (reading E) 2) ≡ judged.Refused 12 0)
+pub P2 : (loadsOf (chosenOf (reading E) 1) ≡ 1 ∷ 1 ∷ 1 ∷ 1 ∷ 0 ∷ []) × (judgedOf (chosenOf (reading E) 1) ≡ judged.Told Okay 0 0) × (judgedOf (chosenOf (reading E) 2) ≡ judged.Refused 12 0)
 unfolding reading book each opened below some count different walks lengthFits spanEnds lightpathEnds follows bit has put stationsInto padded movableFrom product digits digitFor alternativesOf rerouted brought grown swept settled sideOf sum firstOf trailingZeros
 P2 = (refl, refl, refl)
-
-pub P3 : scoredOf (chosenOf (reading E) 0) ≡ scored.Told 2 0
-unfolding reading book each opened below some count different walks lengthFits spanEnds lightpathEnds follows bit has put stationsInto padded movableFrom product digits digitFor alternativesOf rerouted brought grown swept settled sideOf sum firstOf trailingZeros
-P3 = refl
 
 -- E with span 2 limited to 1
 abbrev E′ : List ℕ
 E′ = set E 32 1
 
-pub P4 : (judgedOf (chosenOf (reading E′) 0) ≡ judged.Told (Over 2 2 1)) × (scoredOf (chosenOf (reading E′) 0) ≡ scored.Told 2 1) × (judgedOf (chosenOf (reading E′) 1) ≡ judged.Told Okay)
+pub P4 : (judgedOf (chosenOf (reading E′) 0) ≡ judged.Told (Over 2 2 1) 2 1) × (judgedOf (chosenOf (reading E′) 1) ≡ judged.Told Okay 0 0)
 unfolding reading book each opened below some count different walks lengthFits spanEnds lightpathEnds follows bit has put stationsInto padded movableFrom product digits digitFor alternativesOf rerouted brought grown swept settled sideOf sum firstOf trailingZeros
-P4 = (refl, refl, refl)
+P4 = (refl, refl)
 
 -- so many stations, spans between stations 0 and 1 with limit 2, and lightpaths from 0 to 1, each over one span
 abbrev stationsOf : ℕ → List ℕ
@@ -60,15 +55,15 @@ pair x y =
 abbrev alone : ℕ → List ℕ
 alone n = 0x48 ∷ 0x44 ∷ n ∷ 0 ∷ 0 ∷ 0 ∷ stationsOf n ++ (0x45 ∷ 0x4e ∷ [])
 
-pub P7 : judgedOf (chosenOf (reading (alone 1)) 0) ≡ judged.Told Okay
+pub P7 : judgedOf (chosenOf (reading (alone 1)) 0) ≡ judged.Told Okay 0 0
 unfolding reading book each opened below some count different walks lengthFits spanEnds lightpathEnds follows bit has put stationsInto padded movableFrom product digits digitFor alternativesOf rerouted brought grown swept settled sideOf sum firstOf trailingZeros
 P7 = refl
 
-pub P8 : (judgedOf (chosenOf (reading (alone 2)) 0) ≡ judged.Told (Split 1)) × (scoredOf (chosenOf (reading (alone 2)) 0) ≡ scored.Told 0 0)
+pub P8 : (judgedOf (chosenOf (reading (alone 2)) 0) ≡ judged.Told (Split 1) 0 0)
 unfolding reading book each opened below some count different walks lengthFits spanEnds lightpathEnds follows bit has put stationsInto padded movableFrom product digits digitFor alternativesOf rerouted brought grown swept settled sideOf sum firstOf trailingZeros
-P8 = (refl, refl)
+P8 = refl
 
-pub P9 : (judgedOf (chosenOf (reading (pair 0 0)) 0) ≡ judged.Told (Cut 0 1)) × (judgedOf (chosenOf (reading (pair 0 1)) 0) ≡ judged.Told Okay)
+pub P9 : (judgedOf (chosenOf (reading (pair 0 0)) 0) ≡ judged.Told (Cut 0 1) 2 0) × (judgedOf (chosenOf (reading (pair 0 1)) 0) ≡ judged.Told Okay 0 0)
 unfolding reading book each opened below some count different walks lengthFits spanEnds lightpathEnds follows bit has put stationsInto padded movableFrom product digits digitFor alternativesOf rerouted brought grown swept settled sideOf sum firstOf trailingZeros
 P9 = (refl, refl)
 

@@ -18,12 +18,13 @@ use Rattle.book.proofs.ChoiceRead.{ChoiceIs, such, no-such, choice-is}
 use Rattle.judgement.specs.declared.Verdict.the-variants.{Okay}
 use Rattle.judgement.specs.declared.Judged.{Judged}
 use Rattle.judgement.specs.declared.Judged.the-variants.{Told}
-use Rattle.judgement.specs.Judgement.{verdict}
+use Rattle.judgement.specs.Judgement.{verdict, scoreF, scoreFc}
 use Rattle.judgement.specs.Cuts.{Survives, CutForm}
 use Rattle.judgement.specs.Meaning.{NoneOver}
 use Rattle.judgement.specs.Answers.{judgedOf}
 use Rattle.judgement.proofs.Cuts.{same-forms}
 use Rattle.judgement.proofs.Verdicts.{okay-exact}
+use Rattle.judgement.proofs.Scores.{okay-scores}
 
 -- the bytes s are a well-formed book, n is the number of one of its choices, and of the chosen book no span is over and the form holds
 pub record Meets (Form : RouteBook → Type 0) (s : List ℕ) (n : ℕ) : Type 0 where
@@ -33,6 +34,10 @@ pub record Meets (Form : RouteBook → Type 0) (s : List ℕ) (n : ℕ) : Type 0
   pub below : n < choices book
   pub none-over : NoneOver (chosen book n)
   pub survives : Form (chosen book n)
+
+-- OK comes with scores of nought
+told-noughts : (m : RouteBook) → wellFormed m ≡ true → verdict m ≡ Okay → Told (verdict m) (scoreF m) (scoreFc m) ≡ Told Okay 0 0
+told-noughts m fits e = let z = okay-scores m fits e in rw (e, z .0, z .1)
 
 module _ (s : List ℕ) (n : ℕ) where
   -- one form for another, where they say the same of every well-formed book
@@ -47,10 +52,10 @@ module _ (s : List ℕ) (n : ℕ) where
   }
 
   module _ (h : Bytes s) (r : Judged) (met : r ≡ judgedOf (chosenOf (reading s) n)) where
-    pub okay-joined : (r ≡ Told Okay) ↔ Meets Survives s n
+    pub okay-joined : (r ≡ Told Okay 0 0) ↔ Meets Survives s n
     okay-joined = ((λ e. to (choice-is s n) (sym met ∙ e)), from)
       where
-        to : {g : Reading} → ChoiceIs s n g → judgedOf g ≡ Told Okay → Meets Survives s n
+        to : {g : Reading} → ChoiceIs s n g → judgedOf g ≡ Told Okay 0 0 → Meets Survives s n
         to (such m q l) e =
             let o = reading-only s m h q in
             let okay : verdict (chosen m n) ≡ Okay = cc in
@@ -58,12 +63,12 @@ module _ (s : List ℕ) (n : ℕ) where
             record { book = m; fits = o .1; written = o .0; below = l; none-over = p .0; survives = p .1 }
         to (no-such x) e = let z : _≡_ {A = ℕ} 0 1 = cc in absurd (omega arith)
 
-        from : Meets Survives s n → r ≡ Told Okay
+        from : Meets Survives s n → r ≡ Told Okay 0 0
         from d =
             let m = d .book in
             let reads : reading s ≡ good m = subst (λ (b : List ℕ). reading b ≡ good m) (d .written) (reading-back m (d .fits)) in
             met ∙ ap (λ (g : Reading). judgedOf (chosenOf g n)) reads ∙ ap judgedOf (such-a-choice m n (d .below))
-            ∙ ap Told (okay-exact (chosen m n) (choice-fits m n (d .fits)) .1 (d .none-over, d .survives))
+            ∙ told-noughts (chosen m n) (choice-fits m n (d .fits)) (okay-exact (chosen m n) (choice-fits m n (d .fits)) .1 (d .none-over, d .survives))
 
-    pub okay-means : (r ≡ Told Okay) ↔ Meets CutForm s n
+    pub okay-means : (r ≡ Told Okay 0 0) ↔ Meets CutForm s n
     okay-means = Iff·trans okay-joined (in-form (λ c w. same-forms c w .0), in-form (λ c w. same-forms c w .1))

@@ -19,7 +19,7 @@ use Rattle.book.proofs.Readers.{Bytes}
 use Rattle.book.proofs.Format.{reading-only}
 use Rattle.book.proofs.Chosen.{choice-fits}
 use Rattle.book.proofs.ChoiceRead.{ChoiceIs, such, no-such, choice-is, refused-above}
-use Rattle.judgement.specs.Judgement.{verdict}
+use Rattle.judgement.specs.Judgement.{verdict, scoreF, scoreFc}
 use Rattle.judgement.specs.Answers.{judgedOf, judgedNumbers}
 use Rattle.judgement.specs.declared.Verdict.{Verdict}
 use Rattle.judgement.specs.declared.Verdict.the-variants.{Over, Split, Cut, Okay}
@@ -60,13 +60,13 @@ module _ (s : List ℕ) (n : ℕ) (h : Bytes s) where
 
   -- a refusal has a number of its own, so number 0 means that the answer is told
   pub judged-told : (judgedNumbers (judgedOf (chosenOf (reading s) n)) .number ≡ 0) ↔ ((m : RouteBook) × (chosenOf (reading s) n ≡ good m))
-  judged-told = (to (choice-is s n), (λ z. ap (λ (g : Reading). judgedNumbers (judgedOf g) .number) (z .1) ∙ kinds (verdict (z .0))))
+  judged-told = (to (choice-is s n), (λ z. ap (λ (g : Reading). judgedNumbers (judgedOf g) .number) (z .1) ∙ kinds (verdict (z .0)) (scoreF (z .0)) (scoreFc (z .0))))
     where
-      kinds : (v : Verdict) → judgedNumbers (Told v) .number ≡ 0
-      kinds (Over x l w) = refl
-      kinds (Split d) = refl
-      kinds (Cut x d) = refl
-      kinds Okay = refl
+      kinds : (v : Verdict) (f c : ℕ) → judgedNumbers (Told v f c) .number ≡ 0
+      kinds (Over x l w) f c = refl
+      kinds (Split d) f c = refl
+      kinds (Cut x d) f c = refl
+      kinds Okay f c = refl
 
       to : {g : Reading} → ChoiceIs s n g → judgedNumbers (judgedOf g) .number ≡ 0 → (m : RouteBook) × (g ≡ good m)
       to (such m q l) z = (chosen m n, refl)

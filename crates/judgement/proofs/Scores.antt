@@ -13,8 +13,10 @@ use borrow.Author.Tests.{not-true}
 use Rattle.book.proofs.Tests.{and-inv, and-both}
 use Rattle.book.proofs.Bounds.{counts, ends-stations, ends-lt}
 use Rattle.judgement.specs.Network.{Link, Joined, start, more, sideOf}
-use Rattle.judgement.specs.Judgement.{rides, one, network, without, allUp, apart, scoreF}
+use Rattle.judgement.specs.Judgement.{rides, one, network, without, allUp, apart, verdict, scoreF, scoreFc}
 use Rattle.judgement.specs.Cuts.{AllJoined}
+use Rattle.judgement.specs.declared.Verdict.the-variants.{Okay}
+use Rattle.judgement.proofs.Verdicts.{okay-exact}
 use Rattle.judgement.proofs.Whole.{joined-to}
 use Rattle.judgement.proofs.Chains.{join-trans, join-sym, join-bind}
 use Rattle.judgement.proofs.Sums.{sum-none, none-sum, sum-le}
@@ -97,3 +99,9 @@ module _ (m : RouteBook) (good : wellFormed m ≡ true) where
       both-le true true = omega arith
       both-le true false = omega arith
       both-le false b = omega arith
+
+  -- an acceptable choice has nothing to count
+  pub okay-scores : verdict m ≡ Okay → (scoreF m ≡ 0) × (scoreFc m ≡ 0)
+  okay-scores e =
+      let p = okay-exact m good .0 e in
+      (score-joined (p .1 .intact) .1 (p .1 .each), sum-none _ (length (m .spans)) (λ x l. omega (arith, p .0 x l)))

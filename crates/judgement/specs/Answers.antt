@@ -9,20 +9,13 @@ use Rattle.judgement.specs.Withdrawn.{upWith, inWords, beyond}
 use Rattle.judgement.specs.declared.Verdict.the-variants.{Over, Split, Cut, Okay}
 use Rattle.judgement.specs.declared.Judged.{Judged}
 use Rattle.judgement.specs.declared.Judged.the-variants as judged
-use Rattle.judgement.specs.declared.Scored.{Scored}
-use Rattle.judgement.specs.declared.Scored.the-variants as scored
 use Rattle.judgement.specs.declared.Asked.{Asked}
 use Rattle.judgement.specs.declared.Asked.the-variants as asked
 
--- J21, J22: the judgement
+-- J21, J22, J23: the judgement, and with it the score
 abbrev pub judgedOf : Reading → Judged
-judgedOf (good m) = judged.Told (verdict m)
+judgedOf (good m) = judged.Told (verdict m) (scoreF m) (scoreFc m)
 judgedOf (refused k p) = judged.Refused k p
-
--- J21, J23: the score
-abbrev pub scoredOf : Reading → Scored
-scoredOf (good m) = scored.Told (scoreF m) (scoreFc m)
-scoredOf (refused k p) = scored.Refused k p
 
 -- J21, J24: the question about span x: 13 where there is no such span; also where the choice is over
 abbrev pub askedOf : Reading → ℕ → Asked
@@ -44,24 +37,15 @@ pub record Numbers : Type 0 where
   pub load : ℕ
   pub limit : ℕ
   pub side : ℕ
-
-abbrev pub judgedNumbers : Judged → Numbers
-judgedNumbers (judged.Told (Over x l w)) = record { number = 0; place = 0; span = x; load = l; limit = w; side = 0 }
-judgedNumbers (judged.Told (Split d)) = record { number = 0; place = 0; span = 0; load = 0; limit = 0; side = d }
-judgedNumbers (judged.Told (Cut x d)) = record { number = 0; place = 0; span = x; load = 0; limit = 0; side = d }
-judgedNumbers (judged.Told Okay) = record { number = 0; place = 0; span = 0; load = 0; limit = 0; side = 0 }
-judgedNumbers (judged.Refused k p) = record { number = k; place = p; span = 0; load = 0; limit = 0; side = 0 }
-
--- F and Fc, with the number and place of a refusal
-pub record Scores : Type 0 where
-  pub number : ℕ
-  pub place : ℕ
   pub f : ℕ
   pub fc : ℕ
 
-abbrev pub scoredNumbers : Scored → Scores
-scoredNumbers (scored.Told f c) = record { number = 0; place = 0; f = f; fc = c }
-scoredNumbers (scored.Refused k p) = record { number = k; place = p; f = 0; fc = 0 }
+abbrev pub judgedNumbers : Judged → Numbers
+judgedNumbers (judged.Told (Over x l w) f c) = record { number = 0; place = 0; span = x; load = l; limit = w; side = 0; f = f; fc = c }
+judgedNumbers (judged.Told (Split d) f c) = record { number = 0; place = 0; span = 0; load = 0; limit = 0; side = d; f = f; fc = c }
+judgedNumbers (judged.Told (Cut x d) f c) = record { number = 0; place = 0; span = x; load = 0; limit = 0; side = d; f = f; fc = c }
+judgedNumbers (judged.Told Okay f c) = record { number = 0; place = 0; span = 0; load = 0; limit = 0; side = 0; f = f; fc = c }
+judgedNumbers (judged.Refused k p) = record { number = k; place = p; span = 0; load = 0; limit = 0; side = 0; f = 0; fc = 0 }
 
 -- the side and whether it holds all stations, with the number and place of a refusal
 pub record Sides : Type 0 where

@@ -7,6 +7,7 @@ mod pairs;
 mod question;
 mod ring;
 mod side;
+mod walk;
 mod ways;
 
 use book::Answer;
@@ -14,7 +15,7 @@ use book::choice;
 ghost use mathlib.Core.Path.{_≡_};
 ghost use Rattle.book.specs.Format.{reading};
 ghost use Rattle.book.specs.Writing.{chosenOf};
-ghost use Rattle.judgement.specs.Answers.{judgedOf, scoredOf, askedOf, askedSetOf};
+ghost use Rattle.judgement.specs.Answers.{judgedOf, askedOf, askedSetOf};
 ghost use Rattle.judgement.specs.Contraction.{contractedOf};
 
 // The first that holds: a span over its limit, with its load and limit; a network that is split, with the side; a span whose loss parts the stations, with
@@ -26,15 +27,9 @@ pub enum Verdict {
     Okay,
 }
 
-// The answer of `judge`: the verdict, or a refusal's number and place.
+// The answer of `judge`: the verdict and the scores F and Fc, or a refusal's number and place.
 pub enum Judged {
-    Told(Verdict),
-    Refused(u8, usize),
-}
-
-// The answer of `score`: F and Fc, or a refusal's number and place.
-pub enum Scored {
-    Told(u16, u16),
+    Told(Verdict, u16, u16),
     Refused(u8, usize),
 }
 
@@ -50,7 +45,7 @@ pub enum Contracted {
     Refused(u8, usize),
 }
 
-// Judges choice n of a book.
+// Judges choice n of a book, and scores it.
 pub fn judge(s: &[u8], n: u32) -> Judged
     ensures { λ r. ⌜ r ≡ judgedOf (chosenOf (reading (now (s .entry))) n) ⌝ }
 {
@@ -58,24 +53,8 @@ pub fn judge(s: &[u8], n: u32) -> Judged
     let answer = reply.answer;
     let b = reply.book;
     match answer {
-        Answer::Good => {
-            let v = kind::verdict_of(b);
-            Judged::Told(v)
-        }
+        Answer::Good => walk::judged_of(b),
         Answer::Refused(no, place) => Judged::Refused(no, place),
-    }
-}
-
-// Scores choice n of a book: F and Fc.
-pub fn score(s: &[u8], n: u32) -> Scored
-    ensures { λ r. ⌜ r ≡ scoredOf (chosenOf (reading (now (s .entry))) n) ⌝ }
-{
-    let reply = choice::choose(s, n);
-    let answer = reply.answer;
-    let b = reply.book;
-    match answer {
-        Answer::Good => pairs::scored_of(b),
-        Answer::Refused(no, place) => Scored::Refused(no, place),
     }
 }
 

@@ -1,6 +1,4 @@
 // The score F: the pairs of a lightpath and a span of its route where the lightpath's ends are not joined with the span out.
-use crate::Scored;
-use crate::load;
 use crate::side;
 use crate::side::joined;
 use crate::side::up_without;
@@ -11,8 +9,6 @@ ghost use Prim.Native.Nat.{_≤_, _<_};
 ghost use lib.ListN.{length};
 ghost use Rattle.book.specs.Book.{RouteBook, wellFormed};
 ghost use Rattle.book.specs.Memory.{bookOf};
-ghost use Rattle.book.specs.Format.{good};
-ghost use Rattle.judgement.specs.Answers.{scoredOf};
 ghost use Rattle.judgement.specs.Judgement.{one, scoreF};
 ghost use Rattle.judgement.specs.Holding.{Held};
 ghost use Rattle.judgement.specs.Inside.{upOf, Fits, partedBy, apartOn, apartIn};
@@ -74,7 +70,7 @@ fn apart_in<'a>(
 }
 
 // The score F: over the lower word for the spans below 64, and over the upper word for the rest.
-fn score_f(b: Book) -> u16
+pub(crate) fn score_f(b: Book) -> u16
     requires { ⌜ Held b ⌝ }
     ensures { λ r. ⌜ ((m : RouteBook) → b ≡ bookOf m → wellFormed m ≡ true → r ≡ scoreF m) ⌝ }
 {
@@ -84,15 +80,4 @@ fn score_f(b: Book) -> u16
     let low = apart_in(&b.from, &b.to, &b.low, few, n);
     let high = apart_in(&b.from, &b.to, &b.high, rest, n);
     low + high
-}
-
-// Both scores of a book.
-pub(crate) fn scored_of(b: Book) -> Scored
-    requires { ⌜ Held b ⌝ }
-    ensures { λ r. ⌜ ((m : RouteBook) → b ≡ bookOf m → wellFormed m ≡ true → r ≡ scoredOf (good m)) ⌝ }
-{
-    let f = score_f(b);
-    let loads = load::loads_of(b);
-    let fc = load::excess(b, loads);
-    Scored::Told(f, fc)
 }

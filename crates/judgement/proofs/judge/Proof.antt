@@ -1,13 +1,10 @@
 -- The reading of the choice is a good book, of which the answer is told, or a refusal, which is handed on.
 -- What is told of the struct holds of the book that it holds.
-use mathlib.Core.Path.{ap, _∙_}
 use native.Mathlib.Omega.{arith}
 use denote.Ref.{now}
 use Rattle.book.specs.Format.{reading}
 use Rattle.book.specs.Writing.{chosenOf}
 use Rattle.book.proofs.Stages.{all-bytes}
-use Rattle.judgement.specs.declared.Judged.the-variants.{Told}
-use Rattle.judgement.proofs.Arrays.{verdict-in}
 use Rattle.judgement.proofs.Opened.{Opened, opened, opened-refused}
 use borrow.Author.Needs.{needs}
 use Rattle.judgement.proofs.judge.Statement.{statement}
@@ -25,14 +22,14 @@ good-one c =
     let s = now (c .before .before .before .before .before .args .s) in
     opened s (c .before .before .before .before .before .args .n) (all-bytes s (λ i. omega (arith, c .before .before .before .before .shared-slice-known .given i))) (c .before .before .before .choose .result) (c .before .before .before .choose .ensures) (c .enum-told .given .1)
 
-verdict-of-requires : tie.Need-verdict-of-requires
-verdict-of-requires c κs = search needs
+judged-of-requires : tie.Need-judged-of-requires
+judged-of-requires c κs = let o = good-one c in record { book = o .book; is = o .held; fits = o .fits }
 
 enum-known-answer : tie.Need-enum-known-answer
 enum-known-answer c = search needs
 
 returns : tie.Need-returns
-returns c = let o = good-one (c .before) in rw (o .is) (ap Told (c .verdict-of .ensures ∙ verdict-in (o .book) (o .fits) (o .held)))
+returns c = let o = good-one (c .before) in rw (o .is) (c .judged-of .ensures (o .book) (o .held) (o .fits))
 
 returns-2 : tie.Need-returns-2
 returns-2 c = rw (opened-refused (chosenOf (reading (now (c .before .before .before .before .before .before .args .s))) (c .before .before .before .before .before .before .args .n)) (c .before .before .before .before .choose .result) (c .before .before .before .before .choose .ensures) (c .before .answer .given .1))
@@ -40,4 +37,4 @@ returns-2 c = rw (opened-refused (chosenOf (reading (now (c .before .before .bef
 pub judge-spec : {M : Type 1} → statement M
 judge-spec =
     tie.close
-    (tie.spec choose-requires enum-told verdict-of-requires enum-known-answer returns returns-2)
+    (tie.spec choose-requires enum-told judged-of-requires enum-known-answer returns returns-2)
