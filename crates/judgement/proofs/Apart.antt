@@ -34,18 +34,16 @@ module _ (n : ℕ) (from to words : List ℕ) (i : ℕ) (few : n ≤ 96) where
       (ap not (ap (λ (x : List Bool). getD x k false) e ∙ table-at (unset words i) n k few l) ∙ not-twice (has (getD words k 0) i))
       (ap (λ (x : ℕ). not (has x (getD to k 0))) (table-side (unset words i) n from to few e 64 (getD from k 0)))
 
-  -- the count with one lightpath more
-  pub apart-next : {u : List Bool} {t r k : ℕ} → u ≡ upTable (unset words i) n → k < n → t ≡ sum (λ j. one (apartAt n from to words i j)) k
-      → r ≡ one (partedBy n from to (upOf u) k) → t + r ≡ sum (λ j. one (apartAt n from to words i j)) (k + 1)
-  apart-next {k = k} e l is more = omega (arith, is, more ∙ ap one (parted-apart e k l), sum-next (λ j. one (apartAt n from to words i j)) k)
+  -- the count by either
+  pub parted-sum : {u : List Bool} {r : ℕ} → u ≡ upTable (unset words i) n → r ≡ sum (λ k. one (partedBy n from to (upOf u) k)) n → r ≡ apartOn n from to words i
+  parted-sum {u} e is = is ∙ sum-alike (λ k. one (partedBy n from to (upOf u) k)) (λ k. one (apartAt n from to words i k)) n (λ k l. ap one (parted-apart e k l))
 
--- how many there can be, for one number and for all below c
-module _ (n : ℕ) (from to words : List ℕ) where
-  pub apart-few : (i k : ℕ) → sum (λ j. one (apartAt n from to words i j)) k ≤ k
-  apart-few i k = omega (arith, sum-most 1 (λ j. one (apartAt n from to words i j)) k (λ j l. one-most (apartAt n from to words i j)))
+-- how many can pass a test, and how many pairs there can be for all numbers below c
+pub ones-few : (t : ℕ → Bool) (k : ℕ) → sum (λ j. one (t j)) k ≤ k
+ones-few t k = omega (arith, sum-most 1 (λ j. one (t j)) k (λ j l. one-most (t j)))
 
-  pub apart-most : (c : ℕ) → n ≤ 96 → apartIn n from to words c ≤ 96 * c
-  apart-most c few = sum-most 96 (λ i. apartOn n from to words i) c (λ i l. omega (arith, apart-few i n))
+pub apart-most : (n : ℕ) (from to words : List ℕ) (c : ℕ) → n ≤ 96 → apartIn n from to words c ≤ 96 * c
+apart-most n from to words c few = sum-most 96 (λ i. apartOn n from to words i) c (λ i l. omega (arith, ones-few (λ k. apartAt n from to words i k) n))
 
 -- the book that the arrays hold
 module _ (m : RouteBook) {b : Book} (e : b ≡ bookOf m) where

@@ -41,12 +41,13 @@ module _ (m : RouteBook) (fits : wellFormed m ≡ true) where
   split-in : splitOrIn held ≡ splitOr m
   split-in = ap₂ (λ (v : Verdict) (d : ℕ). cond (eqb d (stations m)) v (Split d)) cut-in (side-up m refl (lowest m))
 
-  over-in : overOrIn held ≡ verdict m
-  over-in =
-      ap (λ (v : Verdict). firstOf (λ x. ltb (limitIn held x) (loadIn held x)) (λ x. Over x (loadIn held x) (limitIn held x)) v (length (m .spans)) 0) split-in
+  pub over-in : {b : Book} → b ≡ bookOf m → overOrIn b ≡ verdict m
+  over-in e =
+      ap overOrIn e
+      ∙ ap (λ (v : Verdict). firstOf (λ x. ltb (limitIn held x) (loadIn held x)) (λ x. Over x (loadIn held x) (limitIn held x)) v (length (m .spans)) 0) split-in
       ∙ first-alike (λ x. ltb (limitIn held x) (loadIn held x)) (λ x. ltb (limit m x) (load m x)) (λ x. Over x (loadIn held x) (limitIn held x)) (λ x. Over x (load m x) (limit m x)) (splitOr m) (length (m .spans)) 0
       (λ x p q. (ap₂ ltb (limit-in m x) (load-in m fits x), ap₂ (Over x) (load-in m fits x) (limit-in m x)))
 
   -- THE LAW
   pub verdict-in : {b : Book} → b ≡ bookOf m → verdictIn b ≡ verdict m
-  verdict-in e = ap verdictIn e ∙ rw (book-usable m fits refl .is) over-in
+  verdict-in e = ap verdictIn e ∙ rw (book-usable m fits refl .is) (over-in refl)

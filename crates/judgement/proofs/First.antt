@@ -41,6 +41,30 @@ module _ {A : Type 0} (t : ℕ → Bool) (f : ℕ → A) (out : A) where
     unfolding firstOf
     looking-end l = let z : n - k ≡ 0 = omega arith in now .left ∙ ap (λ (d : ℕ). firstOf t f out d k) z
 
+  -- a loop that comes down over the numbers below n and is at k: r is the first of those from k on
+  pub record Back (n k : ℕ) (r : A) : Type 0 where
+    pub few : k ≤ n
+    pub is : r ≡ firstOf t f out (n - k) k
+
+  pub back-start : (n : ℕ) → Back n n out
+  unfolding firstOf
+  back-start n = let z : 0 ≡ n - n = omega arith in record { few = omega arith; is = ap (λ (d : ℕ). firstOf t f out d n) z }
+
+  module _ {n k : ℕ} {r : A} (now : Back n k r) (i : ℕ) (next : i + 1 ≡ k) where
+    down : suc (n - k) ≡ n - i
+    down = omega (arith, now .few)
+
+    pub back-hit : t i ≡ true → Back n i (f i)
+    back-hit e = record { few = omega (arith, now .few); is = sym (first-hit (n - k) i e) ∙ ap (λ (d : ℕ). firstOf t f out d i) down }
+
+    pub back-miss : t i ≡ false → Back n i r
+    back-miss e =
+        let z : k ≡ suc i = omega arith in
+        record { few = omega (arith, now .few); is = now .is ∙ ap (firstOf t f out (n - k)) z ∙ sym (first-miss (n - k) i e) ∙ ap (λ (d : ℕ). firstOf t f out d i) down }
+
+  pub back-end : {n k : ℕ} {r : A} → Back n k r → k ≡ 0 → r ≡ firstOf t f out n 0
+  back-end {n} b z = b .is ∙ rw z (let e : n - 0 ≡ n = omega arith in ap (λ (d : ℕ). firstOf t f out d 0) e)
+
   -- what an answer means: x is the least of d numbers from k that passes, or none of them does
   pub data First (d k : ℕ) : A → Type 0 where
     there : (x : ℕ) → k ≤ x → x < k + d → t x ≡ true → ((y : ℕ) → k ≤ y → y < x → t y ≡ false) → First d k (f x)

@@ -17,13 +17,8 @@ use Rattle.judgement.specs.declared.load.Overload.the-variants as overlo
 use Rattle.judgement.specs.Network.{sideOf}
 use Rattle.judgement.specs.Judgement.{allUp, firstOf}
 use Rattle.judgement.specs.Arrays.{lowestIn, loadIn, limitIn, upIn, sideBy, cutOrOkayIn, splitOrIn, overOrIn}
-use Rattle.judgement.specs.Inside.{netOf, unset, sideIn, partsIn, cutIn}
+use Rattle.judgement.specs.Inside.{netOf, unset, sideIn, partsIn, cutIn, cutOr}
 use Rattle.judgement.proofs.First.{first-alike, first-map, first-shift, first-parts}
-
--- CUT at the span that was found, or else the verdict `out`
-abbrev pub cutOr : Verdict → Parted → Verdict
-cutOr out (parted.At x d) = Cut x d
-cutOr out parted.Nowhere = out
 
 module _ (b : Book) {start : ℕ} (z : start ≡ lowestIn b) where
   abbrev parts : ℕ → Bool
@@ -65,16 +60,13 @@ module _ (b : Book) {start : ℕ} (z : start ≡ lowestIn b) where
       in
       low ∙ ap (λ (v : Verdict). firstOf parts cut v a 0) high ∙ sym (ap (λ (d : ℕ). firstOf parts cut Okay d 0) sum ∙ first-parts parts cut Okay a c 0)
 
-  -- SPLIT, or not
-  module _ {d : ℕ} (h : d ≡ sideOf (netOf (b .lightpaths) (b .from) (b .to)) allUp 64 start) where
-    side-is : d ≡ sideBy b allUp
-    side-is = h ∙ ap (sideOf (netOf (b .lightpaths) (b .from) (b .to)) allUp 64) z
+-- SPLIT, or not
+module _ (b : Book) {d : ℕ} (side-is : d ≡ sideBy b allUp) where
+  pub is-split : (d ≡ b .stations → ⊥) → Split d ≡ splitOrIn b
+  is-split n = rw (ne-eqb (sideBy b allUp) (b .stations) (λ q. n (side-is ∙ q))) (ap Split side-is)
 
-    pub is-split : (d ≡ b .stations → ⊥) → Split d ≡ splitOrIn b
-    is-split n = rw (ne-eqb (sideBy b allUp) (b .stations) (λ q. n (side-is ∙ q))) (ap Split side-is)
-
-    pub not-split : d ≡ b .stations → cutOrOkayIn b ≡ splitOrIn b
-    not-split q = sym (rw (eq-eqb (sideBy b allUp) (b .stations) (sym side-is ∙ q)))
+  pub not-split : d ≡ b .stations → cutOrOkayIn b ≡ splitOrIn b
+  not-split q = sym (rw (eq-eqb (sideBy b allUp) (b .stations) (sym side-is ∙ q)))
 
 -- OVER at the span that was found, or else the verdict `out`
 abbrev pub overOr : Verdict → Overload → Verdict

@@ -19,6 +19,7 @@ pub mod Excess
 pub mod Scores
 pub mod Tables
 pub mod Held
+pub mod Known
 pub mod Found
 pub mod Arrays
 pub mod Apart

@@ -1,6 +1,6 @@
 -- What a usable struct has, test by test, and what the code relies on in its arrays. The struct of a well-formed book is usable.
 use Prim.Native.Nat.{ℕ, _≤_, _<_}
-use mathlib.Core.Path.{_≡_, refl, sym, ap, _∙_}
+use mathlib.Core.Path.{_≡_, refl, sym, ap, _∙_, subst}
 use mathlib.Core.List.{List}
 use mathlib.Core.Bool.{true, false, not, _&&_}
 use native.Mathlib.Decide.{decLt}
@@ -10,14 +10,15 @@ use lib.Dec.{ltb}
 use borrow.Author.Tests.{lt-ltb, le-ltb, ltb-true, ltb-false, not-true}
 use Rattle.book.specs.declared.Book.{Book}
 use Rattle.book.specs.Book.{Lightpath, RouteBook, below, wellFormed}
+use Rattle.book.specs.Bits.{has, stationSet}
 use Rattle.book.specs.Memory.{bookOf}
 use Rattle.book.proofs.Tests.{and-inv, and-both}
-use Rattle.book.proofs.Bounds.{counts, ends-lt}
+use Rattle.book.proofs.Bounds.{counts, ends-lt, ends-stations}
 use Rattle.book.proofs.Walking.{below-at, below-all}
 use Rattle.book.proofs.Lightpaths.{column-at}
 use Rattle.book.proofs.Writers.{noLightpath}
 use Rattle.judgement.specs.Arrays.{lowestIn, usable}
-use Rattle.judgement.specs.Inside.{Fits}
+use Rattle.judgement.specs.Inside.{Fits, EndsIn}
 use Rattle.judgement.specs.Holding.{Held, Usable}
 use Rattle.judgement.proofs.Stations.{lowest-lt}
 
@@ -100,3 +101,10 @@ held-usable h = book-usable (h .book) (h .fits) (h .is)
 
 pub held-spans : {b : Book} → Held b → b .spans ≤ 128
 held-spans h = usable-spans (held-usable h)
+
+-- the ends of its lightpaths are stations
+pub held-ends : {b : Book} → Held b → EndsIn (b .lightpaths) (b .from) (b .to) (b .stations)
+held-ends h = let m = h .book in subst (λ (y : Book). EndsIn (y .lightpaths) (y .from) (y .to) (y .stations)) (sym (h .is)) (record {
+  from-in = λ k l. ap (has (stationSet (m .nodes))) (column-at 96 (λ (p : Lightpath). p .ends .from) (m .lightpaths) noLightpath refl k) ∙ ends-stations m (h .fits) k l .0;
+  to-in = λ k l. ap (has (stationSet (m .nodes))) (column-at 96 (λ (p : Lightpath). p .ends .to) (m .lightpaths) noLightpath refl k) ∙ ends-stations m (h .fits) k l .1;
+})

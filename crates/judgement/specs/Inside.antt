@@ -3,7 +3,7 @@ use Prim.Native.Nat.{ℕ, zero, suc, _+_, _^_, _<_, _≤_}
 use mathlib.Core.Path.{_≡_}
 use mathlib.Core.List.{List}
 use mathlib.Core.Logic.{_⊎_}
-use mathlib.Core.Bool.{Bool, false, cond, not, _&&_}
+use mathlib.Core.Bool.{Bool, true, false, cond, not, _&&_}
 use lib.Bits.{bitAnd, bitOr, bitXor}
 use lib.Count.{trailingZeros}
 use lib.ListN.{length, getD, set, replicate}
@@ -12,7 +12,9 @@ use lib.Dec.{eqb}
 use Rattle.book.specs.declared.Book.{Book}
 use Rattle.judgement.specs.declared.side.Growth.{Growth}
 use Rattle.judgement.specs.declared.kind.Parted.{Parted}
-use Rattle.judgement.specs.declared.kind.Parted.the-variants.{At}
+use Rattle.judgement.specs.declared.kind.Parted.the-variants.{At, Nowhere}
+use Rattle.judgement.specs.declared.Verdict.{Verdict}
+use Rattle.judgement.specs.declared.Verdict.the-variants.{Cut}
 use Rattle.judgement.specs.Network.{Network, Link, sideOf}
 use Rattle.judgement.specs.Judgement.{sum, one}
 
@@ -44,6 +46,22 @@ pub record Leads (W : ℕ) (net : Network) (up : ℕ → Bool) (rows : List ℕ)
   pub low : (x : ℕ) → getD rows x 0 < 2 ^ W
   pub only : (x y : ℕ) → bit (getD rows x 0) y ≡ 1 → (x ≡ y) ⊎ Link net up x y
   pub all : (x y : ℕ) → Link net up x y → bit (getD rows x 0) y ≡ 1
+
+-- such rows, of lightpaths whose ends are below W; and rows that are such of some lightpaths
+pub record Led (W : ℕ) (rows : List ℕ) (net : Network) (up : ℕ → Bool) : Type 0 where
+  pub ends : (k : ℕ) → k < net .count → (net .from k < W) × (net .to k < W)
+  pub leads : Leads W net up rows
+
+pub record LedBySome (W : ℕ) (rows : List ℕ) : Type 0 where
+  pub net : Network
+  pub up : ℕ → Bool
+  pub led : Led W rows net up
+
+-- d is the side of some node
+pub record IsSide (W : ℕ) (net : Network) (up : ℕ → Bool) (d : ℕ) : Type 0 where
+  pub start : ℕ
+  pub low : start < W
+  pub is : d ≡ sideOf net up W start
 
 -- the set r of which the part q has been looked at; the node that is looked at next, the lowest of those left; and with what that leads to put in
 abbrev pub growth : ℕ → ℕ → Growth
@@ -92,6 +110,16 @@ apartOn n from to words i = sum (λ k. one (apartAt n from to words i k)) n
 
 abbrev pub apartIn : ℕ → List ℕ → List ℕ → List ℕ → ℕ → ℕ
 apartIn n from to words count = sum (λ i. apartOn n from to words i) count
+
+-- the ends of the first n lightpaths are in the set d
+pub record EndsIn (n : ℕ) (from to : List ℕ) (d : ℕ) : Type 0 where
+  pub from-in : (k : ℕ) → k < n → has d (getD from k 0) ≡ true
+  pub to-in : (k : ℕ) → k < n → has d (getD to k 0) ≡ true
+
+-- CUT at the span that was found, or else the verdict `out`
+abbrev pub cutOr : Verdict → Parted → Verdict
+cutOr out (At x d) = Cut x d
+cutOr out Nowhere = out
 
 -- how many of the numbers below k are in the set x
 unfoldable pub size : ℕ → ℕ → ℕ

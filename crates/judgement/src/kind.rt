@@ -9,9 +9,9 @@ ghost use mathlib.Core.Path.{_≡_};
 ghost use Prim.Native.Nat.{_≤_, _<_};
 ghost use lib.ListN.{length};
 ghost use Rattle.book.specs.Book.{below};
-ghost use Rattle.judgement.specs.Judgement.{firstOf};
-ghost use Rattle.judgement.specs.Arrays.{usable, lowestIn, cutOrOkayIn, splitOrIn, verdictIn};
-ghost use Rattle.judgement.specs.Inside.{Fits, partsIn, cutIn};
+ghost use Rattle.judgement.specs.Judgement.{allUp, firstOf};
+ghost use Rattle.judgement.specs.Arrays.{usable, lowestIn, sideBy, cutOrOkayIn, splitOrIn, verdictIn};
+ghost use Rattle.judgement.specs.Inside.{Fits, partsIn, cutIn, cutOr};
 ghost use Rattle.judgement.specs.Holding.{Usable};
 
 // The lowest span that parts the stations, with the side then.
@@ -37,11 +37,39 @@ fn first_cut(b: Book, start: u8, words: [u64; 152], base: u8, count: u8) -> Part
     Parted::Nowhere
 }
 
+// The lowest station.
+fn lowest_of(b: Book) -> u8
+    ensures { λ r. ⌜ r ≡ lowestIn b ⌝ }
+{
+    let all = Side { mask: b.stations };
+    all.lowest()
+}
+
+// The side with all lightpaths up.
+pub(crate) fn intact(b: Book) -> Side
+    requires { ⌜ Usable b ⌝ }
+    ensures { λ r. ⌜ r .mask ≡ sideBy b allUp ⌝ }
+{
+    let n = b.lightpaths as usize;
+    side::side_whole(lowest_of(b), &b.from, &b.to, n)
+}
+
+// CUT at the span that was found, or else the verdict given.
+pub(crate) fn cut_or(found: Parted, rest: Verdict) -> Verdict
+    ensures { λ r. ⌜ r ≡ cutOr rest found ⌝ }
+{
+    match found {
+        Parted::At(x, d) => Verdict::Cut(x, d),
+        Parted::Nowhere => rest,
+    }
+}
+
 // CUT at the lowest span whose loss parts the stations, or OK: the spans below 64 are looked at first, then the others.
-fn cut_or_okay(b: Book, start: u8) -> Verdict
-    requires { ⌜ Usable b × (start ≡ lowestIn b) ⌝ }
+fn cut_or_okay(b: Book) -> Verdict
+    requires { ⌜ Usable b ⌝ }
     ensures { λ r. ⌜ r ≡ cutOrOkayIn b ⌝ }
 {
+    let start = lowest_of(b);
     let spans = b.spans;
     let few = side::low_spans(spans);
     let low = b.low;
@@ -51,10 +79,7 @@ fn cut_or_okay(b: Book, start: u8) -> Verdict
         return Verdict::Cut(x, d);
     }
     let second = first_cut(b, start, high, 64, spans - few);
-    match second {
-        Parted::At(x, d) => Verdict::Cut(x, d),
-        Parted::Nowhere => Verdict::Okay,
-    }
+    cut_or(second, Verdict::Okay)
 }
 
 // SPLIT where with all lightpaths up some station is not joined, or what `cut_or_okay` says.
@@ -62,14 +87,11 @@ pub(crate) fn split_or(b: Book) -> Verdict
     requires { ⌜ Usable b ⌝ }
     ensures { λ r. ⌜ r ≡ splitOrIn b ⌝ }
 {
-    let all = Side { mask: b.stations };
-    let start = all.lowest();
-    let n = b.lightpaths as usize;
-    let whole = side::side_whole(start, &b.from, &b.to, n);
+    let whole = intact(b);
     if whole.mask != b.stations {
         return Verdict::Split(whole.mask);
     }
-    cut_or_okay(b, start)
+    cut_or_okay(b)
 }
 
 // Whether all numbers are those of nodes.

@@ -1,83 +1,94 @@
-// The score F: the pairs of a lightpath and a span of its route where the lightpath's ends are not joined with the span out.
+// One span out: the side of the lowest station, and the pairs that F counts there, which are the lightpaths on the span whose ends are not joined then.
 use crate::side;
-use crate::side::joined;
+use crate::side::Side;
 use crate::side::up_without;
-use book::Book;
 ghost use mathlib.Core.Path.{_≡_};
-ghost use mathlib.Core.Bool.{true};
-ghost use Prim.Native.Nat.{_≤_, _<_};
+ghost use mathlib.Core.Bool.{Bool, not, _&&_};
+ghost use Prim.Native.Nat.{ℕ, _<_};
+ghost use lib.Count.{trailingZeros};
 ghost use lib.ListN.{length};
-ghost use Rattle.book.specs.Book.{RouteBook, wellFormed};
-ghost use Rattle.book.specs.Memory.{bookOf};
-ghost use Rattle.judgement.specs.Judgement.{one, scoreF};
-ghost use Rattle.judgement.specs.Holding.{Held};
-ghost use Rattle.judgement.specs.Inside.{upOf, Fits, partedBy, apartOn, apartIn};
+ghost use Rattle.book.specs.Bits.{has};
+ghost use Rattle.judgement.specs.Network.{Network, sideOf};
+ghost use Rattle.judgement.specs.Judgement.{sum, one};
+ghost use Rattle.judgement.specs.Inside.{netOf, upOf, Fits, Led, LedBySome, IsSide, EndsIn, partedBy, unset, apartOn};
 
-// One lightpath: 1 where it is not up and its ends are not joined, and else 0.
-fn apart_at<'a>(from: &'a [u8; 96], to: &'a [u8; 96], up: &'a [bool; 96], n: usize, k: usize) -> u16
-    requires { ⌜ Fits n (now from) (now to) × (length (now up) ≡ 96) × (k < 96) ⌝ }
-    ensures { λ r. ⌜ r ≡ one (partedBy n (now (from .entry)) (now (to .entry)) (upOf (now (up .entry))) k) ⌝ }
+// Whether two nodes are joined, given where the lightpaths that are up lead, and one side. Where that holds one of the two it tells; else a side is grown.
+fn joined(a: u8, b: u8, rows: &[u64; 64], known: Side) -> bool
+    requires { ⌜ (a < 64) × (b < 64) × LedBySome 64 (now rows) ⌝ }
+    ensures { λ r. ⌜ ((net : Network) → (up : ℕ → Bool) → Led 64 (now (rows .entry)) net up → IsSide 64 net up (known .mask) → r ≡ has (sideOf net up 64 a) b) ⌝ }
 {
-    if up[k] {
-        return 0;
+    if known.has(a) {
+        return known.has(b);
     }
-    if joined(from[k], to[k], from, to, up, n) {
-        0
-    } else {
-        1
+    if known.has(b) {
+        return false;
     }
+    side::reaches(a, b, rows)
 }
 
-// How many of the first n lightpaths hold the bit in their word, a set of spans, and have ends that are not joined when those lightpaths are out.
+// One lightpath: 1 where it is not up and its ends are not joined, and else 0.
+fn apart_at(a: u8, b: u8, up: bool, rows: &[u64; 64], known: Side) -> u16
+    requires { ⌜ (a < 64) × (b < 64) × LedBySome 64 (now rows) ⌝ }
+    ensures { λ r. ⌜ ((net : Network) → (t : ℕ → Bool) → Led 64 (now (rows .entry)) net t → IsSide 64 net t (known .mask) → r ≡ one (not up && not (has (sideOf net t 64 a) b))) ⌝ }
+{
+    if up {
+        return 0;
+    }
+    if joined(a, b, rows, known) { 0 } else { 1 }
+}
+
+// How many of the first n lightpaths are not up and have ends that are not joined by those that are.
 fn apart_on<'a>(
     from: &'a [u8; 96],
     to: &'a [u8; 96],
-    words: &'a [u64; 152],
-    bit: u8,
+    up: &'a [bool; 96],
+    rows: &'a [u64; 64],
+    known: Side,
     n: usize,
 ) -> u16
-    requires { ⌜ Fits n (now from) (now to) × (length (now words) ≡ 152) × (bit < 64) ⌝ }
-    ensures { λ r. ⌜ r ≡ apartOn n (now (from .entry)) (now (to .entry)) (now (words .entry)) bit ⌝ }
+    requires { ⌜ Fits n (now from) (now to) × (length (now up) ≡ 96) × Led 64 (now rows) (netOf n (now from) (now to)) (upOf (now up)) × IsSide 64 (netOf n (now from) (now to)) (upOf (now up)) (known .mask) ⌝ }
+    ensures { λ r. ⌜ r ≡ sum (λ k. one (partedBy n (now (from .entry)) (now (to .entry)) (upOf (now (up .entry))) k)) n ⌝ }
 {
-    let up = up_without(words, bit, n);
     let mut total: u16 = 0;
     let mut k = 0;
     while k < n {
-        total += apart_at(from, to, &up, n, k);
+        total += apart_at(from[k], to[k], up[k], rows, known);
         k += 1;
     }
     total
 }
 
-// The sum of these over the bits below count.
-fn apart_in<'a>(
+// What the loss of a span does: the side of the lowest station then, and how many pairs F counts for the span.
+pub(crate) struct Loss {
+    pub side: Side,
+    pub pairs: u16,
+}
+
+// The loss of the span that is the bit of the lightpaths' words. Where the side holds all stations no ends are parted.
+pub(crate) fn loss_of<'a>(
+    stations: u64,
     from: &'a [u8; 96],
     to: &'a [u8; 96],
     words: &'a [u64; 152],
-    count: u8,
+    bit: u8,
     n: usize,
-) -> u16
-    requires { ⌜ Fits n (now from) (now to) × (length (now words) ≡ 152) × (count ≤ 64) ⌝ }
-    ensures { λ r. ⌜ r ≡ apartIn n (now (from .entry)) (now (to .entry)) (now (words .entry)) count ⌝ }
+) -> Loss
+    requires { ⌜ (trailingZeros 64 stations < 64) × Fits n (now from) (now to) × (length (now words) ≡ 152) × (bit < 64) × EndsIn n (now from) (now to) stations ⌝ }
+    ensures { λ r. ⌜ (r .side .mask ≡ sideOf (netOf n (now (from .entry)) (now (to .entry))) (unset (now (words .entry)) bit) 64 (trailingZeros 64 stations)) × (r .pairs ≡ apartOn n (now (from .entry)) (now (to .entry)) (now (words .entry)) bit) ⌝ }
 {
-    let mut total: u16 = 0;
-    let mut i: u8 = 0;
-    while i < count {
-        total += apart_on(from, to, words, i, n);
-        i += 1;
+    let all = Side { mask: stations };
+    let up = up_without(words, bit, n);
+    let rows = side::rows_of(from, to, &up, n);
+    let known = side::grow(all.lowest(), &rows);
+    if known.mask == stations {
+        return Loss {
+            side: known,
+            pairs: 0,
+        };
     }
-    total
-}
-
-// The score F: over the lower word for the spans below 64, and over the upper word for the rest.
-pub(crate) fn score_f(b: Book) -> u16
-    requires { ⌜ Held b ⌝ }
-    ensures { λ r. ⌜ ((m : RouteBook) → b ≡ bookOf m → wellFormed m ≡ true → r ≡ scoreF m) ⌝ }
-{
-    let n = b.lightpaths as usize;
-    let few = side::low_spans(b.spans);
-    let rest = b.spans - few;
-    let low = apart_in(&b.from, &b.to, &b.low, few, n);
-    let high = apart_in(&b.from, &b.to, &b.high, rest, n);
-    low + high
+    let pairs = apart_on(from, to, &up, &rows, known, n);
+    Loss {
+        side: known,
+        pairs: pairs,
+    }
 }

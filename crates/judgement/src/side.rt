@@ -1,13 +1,13 @@
 // Sides: sets of nodes as one word, bit i for node i, and the side of a node, grown from the nodes still to be looked at, each taken once.
 ghost use mathlib.Core.Path.{_≡_};
-ghost use mathlib.Core.Bool.{true};
-ghost use Prim.Native.Nat.{_≤_, _<_, min};
+ghost use mathlib.Core.Bool.{Bool, true};
+ghost use Prim.Native.Nat.{ℕ, _≤_, _<_, min};
 ghost use lib.ListN.{length};
 ghost use lib.Bits.{bitOr, bitXor};
 ghost use lib.Count.{trailingZeros};
 ghost use Rattle.book.specs.Bits.{has, put};
-ghost use Rattle.judgement.specs.Network.{sideOf};
-ghost use Rattle.judgement.specs.Inside.{netOf, upOf, Fits, noted, Leads, growth, nextIn, tookIn, upTable, unset, size};
+ghost use Rattle.judgement.specs.Network.{Network, sideOf};
+ghost use Rattle.judgement.specs.Inside.{netOf, upOf, Fits, noted, Led, LedBySome, growth, nextIn, tookIn, upTable, unset, size};
 
 // A set of numbers below 64, those of the nodes; the same word serves for the spans of a route.
 pub(crate) struct Side {
@@ -94,9 +94,14 @@ fn note(rows: &mut [u64; 64], a: u8, b: u8, up: bool)
 }
 
 // Where the lightpaths that are up lead: row x is the set of the ends of those that end at x.
-fn rows_of<'a>(from: &'a [u8; 96], to: &'a [u8; 96], up: &'a [bool; 96], n: usize) -> [u64; 64]
+pub(crate) fn rows_of<'a>(
+    from: &'a [u8; 96],
+    to: &'a [u8; 96],
+    up: &'a [bool; 96],
+    n: usize,
+) -> [u64; 64]
     requires { ⌜ Fits n (now from) (now to) × (length (now up) ≡ 96) ⌝ }
-    ensures { λ r. ⌜ Leads 64 (netOf n (now (from .entry)) (now (to .entry))) (upOf (now (up .entry))) r ⌝ }
+    ensures { λ r. ⌜ Led 64 r (netOf n (now (from .entry)) (now (to .entry))) (upOf (now (up .entry))) ⌝ }
 {
     let mut rows = [0u64; 64];
     let mut k = 0;
@@ -146,7 +151,34 @@ impl Growth {
     }
 }
 
-// The side of a node: each node of it is taken once.
+// The side of a node, given where the lightpaths that are up lead: each node of it is taken once.
+pub(crate) fn grow(start: u8, rows: &[u64; 64]) -> Side
+    requires { ⌜ (start < 64) × LedBySome 64 (now rows) ⌝ }
+    ensures { λ r. ⌜ ((net : Network) → (up : ℕ → Bool) → Led 64 (now (rows .entry)) net up → r .mask ≡ sideOf net up 64 start) ⌝ }
+{
+    let mut g = Growth::from(start);
+    while g.side.mask != g.seen.mask {
+        g = g.take(rows);
+    }
+    g.side
+}
+
+// Whether the side of a node holds another: no more of the side is grown than tells it.
+pub(crate) fn reaches(start: u8, end: u8, rows: &[u64; 64]) -> bool
+    requires { ⌜ (start < 64) × (end < 64) × LedBySome 64 (now rows) ⌝ }
+    ensures { λ r. ⌜ ((net : Network) → (up : ℕ → Bool) → Led 64 (now (rows .entry)) net up → r ≡ has (sideOf net up 64 start) end) ⌝ }
+{
+    let mut g = Growth::from(start);
+    while g.side.mask != g.seen.mask {
+        if g.side.has(end) {
+            return true;
+        }
+        g = g.take(rows);
+    }
+    g.side.has(end)
+}
+
+// The side of a node.
 pub(crate) fn side_of<'a>(
     start: u8,
     from: &'a [u8; 96],
@@ -158,34 +190,7 @@ pub(crate) fn side_of<'a>(
     ensures { λ r. ⌜ r .mask ≡ sideOf (netOf n (now (from .entry)) (now (to .entry))) (upOf (now (up .entry))) 64 start ⌝ }
 {
     let rows = rows_of(from, to, up, n);
-    let mut g = Growth::from(start);
-    while g.side.mask != g.seen.mask {
-        g = g.take(&rows);
-    }
-    g.side
-}
-
-// Whether the side of a node holds another: no more of the side is grown than tells it.
-pub(crate) fn joined<'a>(
-    start: u8,
-    end: u8,
-    from: &'a [u8; 96],
-    to: &'a [u8; 96],
-    up: &'a [bool; 96],
-    n: usize,
-) -> bool
-    requires { ⌜ (start < 64) × (end < 64) × Fits n (now from) (now to) × (length (now up) ≡ 96) ⌝ }
-    ensures { λ r. ⌜ r ≡ has (sideOf (netOf n (now (from .entry)) (now (to .entry))) (upOf (now (up .entry))) 64 start) end ⌝ }
-{
-    let rows = rows_of(from, to, up, n);
-    let mut g = Growth::from(start);
-    while g.side.mask != g.seen.mask {
-        if g.side.has(end) {
-            return true;
-        }
-        g = g.take(&rows);
-    }
-    g.side.has(end)
+    grow(start, &rows)
 }
 
 // Which of the first n lightpaths are up without a span: those whose word, a set of spans, has not the span's bit.

@@ -1,4 +1,4 @@
--- After k turns the total counts the first k lightpaths. The array of what is up holds whether each one's word lacks the bit, so one turn is one more term.
+-- After k turns the total counts the first k lightpaths. It counts each at most once, so that no sum is too large.
 use borrow.Author.Needs.{needs}
 use native.Mathlib.Omega.{arith}
 use mathlib.Core.Path.{_≡_, refl}
@@ -6,45 +6,53 @@ use Prim.Native.Nat.{_-_, _+_, _≤_, zero-le}
 use native.Mathlib.Nat.{le-antisymm}
 use denote.Ref.{now}
 use Rattle.judgement.specs.Judgement.{sum, one}
-use Rattle.judgement.specs.Inside.{apartAt}
-use Rattle.judgement.proofs.Apart.{apart-next, apart-few}
+use Rattle.judgement.specs.Inside.{upOf, partedBy}
+use Rattle.judgement.proofs.Sums.{sum-next}
+use Rattle.judgement.proofs.Apart.{ones-few}
 use Rattle.judgement.proofs.pairs.apart_on.Statement.{statement}
 use Rattle.judgement.proofs.pairs.apart_on.Tie as tie
 
 abbrev Inv-loop : tie.InvT-loop
-Inv-loop from to words bit n up total₀ k₀ total k = (k ≤ n) × (total ≡ sum (λ j. one (apartAt n from to words bit j)) k)
+Inv-loop from to up rows known n total₀ k₀ total k = (k ≤ n) × (total ≡ sum (λ j. one (partedBy n from to (upOf up) j)) k)
 
 abbrev μ-loop : tie.MeasureT-loop
-μ-loop from to words bit n up total₀ k₀ total k = n - k
+μ-loop from to up rows known n total₀ k₀ total k = n - k
 
 -- the total with this lightpath
 next : (c : tie.After-apart-at Inv-loop μ-loop)
-    → let a = c .before .before .before .before .before .args in
-    let l = c .before .before .before .loop in
-    l .total + c .apart-at .result ≡ sum (λ j. one (apartAt (a .n) (now (a .from)) (now (a .to)) (now (a .words)) (a .bit) j)) (l .k + 1)
+    → let a = c .before .before .before .before .before .before .args in
+    let l = c .before .before .before .before .before .loop in
+    l .total + c .apart-at .result ≡ sum (λ j. one (partedBy (a .n) (now (a .from)) (now (a .to)) (upOf (now (a .up))) j)) (l .k + 1)
 next c =
-    let s = c .before .before .before .before .before in
+    let s = c .before .before .before .before .before .before in
     let a = s .args in
-    let l = c .before .before .before .loop in
-    apart-next (a .n) (now (a .from)) (now (a .to)) (now (a .words)) (a .bit) (s .pre .0 .few) (c .before .before .before .before .up-without .ensures) (c .before .before .loop-test .taken) (l .inv .1)
-    (c .apart-at .ensures)
-
-up-without-requires : tie.Need-up-without-requires Inv-loop μ-loop
-up-without-requires c κs = search needs
+    let l = c .before .before .before .before .before .loop in
+    omega (arith, l .inv .1, c .apart-at .ensures _ _ (s .pre .2) (s .pre .3), sum-next (λ j. one (partedBy (a .n) (now (a .from)) (now (a .to)) (upOf (now (a .up))) j)) (l .k))
 
 loop-holds : tie.Need-loop-holds Inv-loop μ-loop
 unfolding sum
 loop-holds c = (zero-le, refl)
 
+element-copy-out-apart-at : tie.Need-element-copy-out-apart-at Inv-loop μ-loop
+element-copy-out-apart-at c = search needs
+
+element-copy-out-apart-at-2 : tie.Need-element-copy-out-apart-at-2 Inv-loop μ-loop
+element-copy-out-apart-at-2 c = search needs
+
+element-copy-out-apart-at-3 : tie.Need-element-copy-out-apart-at-3 Inv-loop μ-loop
+element-copy-out-apart-at-3 c = search needs
+
 apart-at-requires : tie.Need-apart-at-requires Inv-loop μ-loop
-apart-at-requires c κs = search needs
+apart-at-requires c κs =
+    let p = c .before .before .before .before .before .pre in
+    (p .0 .from-low _, p .0 .to-low _, record { net = _; up = _; led = p .2 })
 
 add-total : tie.Need-add-total Inv-loop μ-loop
 add-total c =
-    let s = c .before .before .before .before .before in
+    let s = c .before .before .before .before .before .before in
     let a = s .args in
-    let k = c .before .before .before .loop .k in
-    omega (arith, next c, apart-few (a .n) (now (a .from)) (now (a .to)) (now (a .words)) (a .bit) (k + 1), s .pre .0 .few, c .before .before .loop-test .taken)
+    let k = c .before .before .before .before .before .loop .k in
+    omega (arith, next c, ones-few (partedBy (a .n) (now (a .from)) (now (a .to)) (upOf (now (a .up)))) (k + 1), s .pre .0 .few, c .before .before .before .before .loop-test .taken)
 
 add-k : tie.Need-add-k Inv-loop μ-loop
 add-k c = search needs
@@ -64,8 +72,10 @@ apart-on-spec =
     (tie.spec
     Inv-loop
     μ-loop
-    up-without-requires
     loop-holds
+    element-copy-out-apart-at
+    element-copy-out-apart-at-2
+    element-copy-out-apart-at-3
     apart-at-requires
     add-total
     add-k

@@ -5,6 +5,7 @@ use Prim.Native.Nat.{ℕ, _-_, _+_, _≤_, zero-le}
 use native.Mathlib.Nat.{le-antisymm}
 use denote.Ref.{now}
 use Rattle.judgement.specs.Inside.{netOf, upOf, Leads}
+use Rattle.judgement.proofs.Tables.{ends}
 use Rattle.judgement.proofs.Rows.{leads-none, leads-more}
 use Rattle.judgement.proofs.side.rows_of.Statement.{statement}
 use Rattle.judgement.proofs.side.rows_of.Tie as tie
@@ -46,7 +47,7 @@ loop-again c =
     (search needs, rw (c .note .ensures) (leads-more 64 (now (s .args .from)) (now (s .args .to)) (upOf (now (s .args .up))) (l .k) (l .inv .1) (fits .from-low _) (fits .to-low _)))
 
 returns : tie.Need-returns Inv-loop μ-loop
-returns c = rw (le-antisymm (c .before .loop .inv .0) (c .loop-test .left)) at (c .before .loop .inv .1)
+returns c = record { ends = ends (c .before .before .pre .0); leads = rw (le-antisymm (c .before .loop .inv .0) (c .loop-test .left)) at (c .before .loop .inv .1) }
 
 pub rows-of-spec : {M : Type 1} → statement M
 rows-of-spec =
