@@ -17,7 +17,7 @@ use Rattle.book.proofs.Cards.{E}
 use Rattle.judgement.specs.Network.{brought, grown, swept, settled, sideOf}
 use Rattle.judgement.specs.Judgement.{sum, load, firstOf}
 use Rattle.judgement.specs.Withdrawn.{noneOf}
-use Rattle.judgement.specs.Answers.{judgedOf, askedOf, askedSetOf}
+use Rattle.judgement.specs.Answers.{judgedOf, judgedNumbers, askedOf, askedSetOf}
 use Rattle.judgement.specs.declared.Verdict.the-variants.{Over, Split, Cut, Okay}
 use Rattle.judgement.specs.declared.Judged.the-variants as judged
 use Rattle.judgement.specs.declared.Asked.the-variants as asked
@@ -34,6 +34,10 @@ P1 = (refl, refl)
 pub P2 : (loadsOf (chosenOf (reading E) 1) ≡ 1 ∷ 1 ∷ 1 ∷ 1 ∷ 0 ∷ []) × (judgedOf (chosenOf (reading E) 1) ≡ judged.Told Okay 0 0) × (judgedOf (chosenOf (reading E) 2) ≡ judged.Refused 12 0)
 unfolding reading book each opened below some count different walks lengthFits spanEnds lightpathEnds follows bit has put stationsInto padded movableFrom product digits digitFor alternativesOf rerouted brought grown swept settled sideOf sum firstOf trailingZeros
 P2 = (refl, refl, refl)
+
+pub P3 : (judgedNumbers (judgedOf (chosenOf (reading E) 0)) .f ≡ 2) × (judgedNumbers (judgedOf (chosenOf (reading E) 0)) .fc ≡ 0)
+unfolding reading book each opened below some count different walks lengthFits spanEnds lightpathEnds follows bit has put stationsInto padded movableFrom product digits digitFor alternativesOf rerouted brought grown swept settled sideOf sum firstOf trailingZeros
+P3 = (refl, refl)
 
 -- E with span 2 limited to 1
 abbrev E′ : List ℕ
