@@ -1,13 +1,13 @@
 /* The operations of Gristvalley for C. docs/FACE.md says what each number is; link target/staticlib/libface.a.
  *
- * A slice is a pointer, which is never null, and a length. Each function is given the bytes of a book and stores eight numbers in `out`:
+ * A slice is a pointer, which is never null, and a length. Each function is given the bytes of a book and stores nine numbers in `out`:
  *
  *   out[0]  the kind of the answer; 0 where it is a refusal
  *   out[1]  the number of the refusal, or 0
  *   out[2]  the place of the refusal, or 0
- *   out[3] to out[7]  what the answer carries, as said below, and then 0
+ *   out[3] to out[8]  what the answer carries, as said below, and then 0
  *
- * It returns whether `out` had room for eight; where it had not, `out` is as before. What stands beyond the eight is kept. The slices that are lent to be written
+ * It returns whether `out` had room for nine; where it had not, `out` is as before. What stands beyond the nine is kept. The slices that are lent to be written
  * share nothing with each other or with the book. */
 #ifndef GRISTVALLEY_FACE_H
 #define GRISTVALLEY_FACE_H
@@ -20,7 +20,7 @@
 extern "C" {
 #endif
 
-enum { GRISTVALLEY_NUMBERS = 8, GRISTVALLEY_LONGEST_BOOK = 3976 };
+enum { GRISTVALLEY_NUMBERS = 9, GRISTVALLEY_LONGEST_BOOK = 3976 };
 
 enum { GRISTVALLEY_REFUSED = 0, GRISTVALLEY_TOLD = 1 };
 enum { GRISTVALLEY_OVER = 1, GRISTVALLEY_SPLIT = 2, GRISTVALLEY_CUT = 3, GRISTVALLEY_OK = 4 };
@@ -29,14 +29,11 @@ enum { GRISTVALLEY_FOUND = 1, GRISTVALLEY_NONE = 2, GRISTVALLEY_MORE = 3 };
 /* Reads a book. TOLD: nodes, spans, lightpaths, alternatives, the set of stations (bit i for node i). */
 bool gristvalley_read(const uint8_t *book, size_t book_len, uint64_t *out, size_t out_len);
 
-/* Judges a choice. OVER, SPLIT, CUT or OK: span, load, limit, side (bit i for node i). */
+/* Judges a choice, and scores it. OVER, SPLIT, CUT or OK: span, load, limit, side (bit i for node i), F, Fc. */
 bool gristvalley_judge(const uint8_t *book, size_t book_len, uint32_t choice, uint64_t *out, size_t out_len);
 
-/* Judges a choice by contraction. As gristvalley_judge, and then the number of merges. */
+/* Judges a choice by contraction. OVER, SPLIT, CUT or OK: span, load, limit, side, the number of merges. */
 bool gristvalley_contract(const uint8_t *book, size_t book_len, uint32_t choice, uint64_t *out, size_t out_len);
-
-/* Scores a choice. TOLD: F, Fc. */
-bool gristvalley_score(const uint8_t *book, size_t book_len, uint32_t choice, uint64_t *out, size_t out_len);
 
 /* Asks about a span of a choice. TOLD: the side with the span out, and 1 where it holds all stations, else 0. */
 bool gristvalley_ask(const uint8_t *book, size_t book_len, uint32_t choice, uint32_t span, uint64_t *out, size_t out_len);

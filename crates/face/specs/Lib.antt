@@ -1,2 +1,2 @@
--- What a reader must believe of crate face: the eight numbers of each answer, and where they are stored.
+-- What a reader must believe of crate face: the nine numbers of each answer, and where they are stored.
 pub mod Numbers

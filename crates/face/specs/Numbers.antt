@@ -1,8 +1,8 @@
--- The eight numbers of an answer, and the slice that they are stored in: docs/FACE.md.
+-- The nine numbers of an answer, and the slice that they are stored in: docs/FACE.md.
 use Prim.Native.Nat.{ℕ}
 use mathlib.Core.Bool.{Bool, cond}
 use mathlib.Core.List.{List, [], _∷_, _++_}
-use lib.ListN.{length, drop, set}
+use lib.ListN.{length, drop}
 use lib.Dec.{leb}
 use Rattle.book.specs.Format.{Reading}
 use Rattle.book.specs.Memory.{shown}
@@ -12,14 +12,13 @@ use Rattle.book.specs.declared.Answer.{Answer}
 use Rattle.book.specs.declared.Answer.the-variants as answer
 use Rattle.book.specs.declared.write.Written.{Written}
 use Rattle.book.specs.declared.write.Written.the-variants as written
-use Rattle.judgement.specs.Answers.{judgedNumbers, scoredNumbers, askedNumbers}
+use Rattle.judgement.specs.Answers.{askedNumbers}
+use Rattle.judgement.specs.declared.Verdict.{Verdict}
 use Rattle.judgement.specs.declared.Verdict.the-variants.{Over, Split, Cut, Okay}
 use Rattle.judgement.specs.declared.Judged.{Judged}
 use Rattle.judgement.specs.declared.Judged.the-variants as judged
 use Rattle.judgement.specs.declared.Contracted.{Contracted}
 use Rattle.judgement.specs.declared.Contracted.the-variants as contracted
-use Rattle.judgement.specs.declared.Scored.{Scored}
-use Rattle.judgement.specs.declared.Scored.the-variants as scored
 use Rattle.judgement.specs.declared.Asked.{Asked}
 use Rattle.judgement.specs.declared.Asked.the-variants as asked
 use Rattle.search.specs.Answers.{searchedNumbers}
@@ -27,53 +26,42 @@ use Rattle.search.specs.declared.Finding.the-variants.{Found, None, More}
 use Rattle.search.specs.declared.Searched.{Searched}
 use Rattle.search.specs.declared.Searched.the-variants as searched
 
--- F1: whether there is room for eight numbers
+-- F1: whether there is room for nine numbers
 abbrev pub roomy : List ℕ → Bool
-roomy out = leb 8 (length out)
+roomy out = leb 9 (length out)
 
 -- F1, F2: the slice afterwards: the numbers and what stood beyond them; or all as it was
 abbrev pub stored : List ℕ → List ℕ → List ℕ
-stored told out = cond (roomy out) (told ++ drop 8 out) out
+stored told out = cond (roomy out) (told ++ drop 9 out) out
 
 -- F3, F4: a kind, the number and place of a refusal, and what the answer carries
 abbrev pub refusedRow : ℕ → ℕ → List ℕ
-refusedRow k p = 0 ∷ k ∷ p ∷ 0 ∷ 0 ∷ 0 ∷ 0 ∷ 0 ∷ []
+refusedRow k p = 0 ∷ k ∷ p ∷ 0 ∷ 0 ∷ 0 ∷ 0 ∷ 0 ∷ 0 ∷ []
 
 -- F5: what the book has
 abbrev pub replyRow : Answer → Book → List ℕ
-replyRow answer.Good b = 1 ∷ 0 ∷ 0 ∷ b .nodes ∷ b .spans ∷ b .lightpaths ∷ b .alternatives ∷ b .stations ∷ []
+replyRow answer.Good b = 1 ∷ 0 ∷ 0 ∷ b .nodes ∷ b .spans ∷ b .lightpaths ∷ b .alternatives ∷ b .stations ∷ 0 ∷ []
 replyRow (answer.Refused k p) b = refusedRow k p
 
 abbrev pub readRow : Reading → List ℕ
 readRow g = replyRow (shown g .answer) (shown g .book)
 
--- F6: the verdict
-abbrev pub judgedKind : Judged → ℕ
-judgedKind (judged.Told (Over x l w)) = 1
-judgedKind (judged.Told (Split d)) = 2
-judgedKind (judged.Told (Cut x d)) = 3
-judgedKind (judged.Told Okay) = 4
-judgedKind (judged.Refused k p) = 0
+-- F6: the verdict: span, load, limit and side, and two numbers behind them
+abbrev pub verdictRow : Verdict → ℕ → ℕ → List ℕ
+verdictRow (Over x l w) a b = 1 ∷ 0 ∷ 0 ∷ x ∷ l ∷ w ∷ 0 ∷ a ∷ b ∷ []
+verdictRow (Split d) a b = 2 ∷ 0 ∷ 0 ∷ 0 ∷ 0 ∷ 0 ∷ d ∷ a ∷ b ∷ []
+verdictRow (Cut x d) a b = 3 ∷ 0 ∷ 0 ∷ x ∷ 0 ∷ 0 ∷ d ∷ a ∷ b ∷ []
+verdictRow Okay a b = 4 ∷ 0 ∷ 0 ∷ 0 ∷ 0 ∷ 0 ∷ 0 ∷ a ∷ b ∷ []
 
+-- F6, F7: the verdict and the score
 abbrev pub judgedRow : Judged → List ℕ
-judgedRow a =
-    let n = judgedNumbers a in
-    judgedKind a ∷ n .number ∷ n .place ∷ n .span ∷ n .load ∷ n .limit ∷ n .side ∷ 0 ∷ []
+judgedRow (judged.Told v f c) = verdictRow v f c
+judgedRow (judged.Refused k p) = refusedRow k p
 
--- F11: the same of the second engine, and how many merges it made
+-- F11: the verdict of the second engine, and how many merges it made
 abbrev pub contractedRow : Contracted → List ℕ
-contractedRow (contracted.Told v n) = set (judgedRow (judged.Told v)) 7 n
+contractedRow (contracted.Told v n) = verdictRow v n 0
 contractedRow (contracted.Refused k p) = refusedRow k p
-
--- F7: the score
-abbrev pub scoredKind : Scored → ℕ
-scoredKind (scored.Told f c) = 1
-scoredKind (scored.Refused k p) = 0
-
-abbrev pub scoredRow : Scored → List ℕ
-scoredRow a =
-    let n = scoredNumbers a in
-    scoredKind a ∷ n .number ∷ n .place ∷ n .f ∷ n .fc ∷ 0 ∷ 0 ∷ 0 ∷ []
 
 -- F8: the question about a span
 abbrev pub askedKind : Asked → ℕ
@@ -83,7 +71,7 @@ askedKind (asked.Refused k p) = 0
 abbrev pub askedRow : Asked → List ℕ
 askedRow a =
     let n = askedNumbers a in
-    askedKind a ∷ n .number ∷ n .place ∷ n .side ∷ cond (n .all) 1 0 ∷ 0 ∷ 0 ∷ 0 ∷ []
+    askedKind a ∷ n .number ∷ n .place ∷ n .side ∷ cond (n .all) 1 0 ∷ 0 ∷ 0 ∷ 0 ∷ 0 ∷ []
 
 -- F9: what was found
 abbrev pub searchedKind : Searched → ℕ
@@ -95,7 +83,7 @@ searchedKind (searched.Refused k p) = 0
 abbrev pub searchedRow : Searched → List ℕ
 searchedRow a =
     let n = searchedNumbers a in
-    searchedKind a ∷ n .number ∷ n .place ∷ n .choice ∷ n .limit ∷ n .total ∷ 0 ∷ 0 ∷ []
+    searchedKind a ∷ n .number ∷ n .place ∷ n .choice ∷ n .limit ∷ n .total ∷ 0 ∷ 0 ∷ 0 ∷ []
 
 -- F10: the length of what was written
 abbrev pub writtenKind : Written → ℕ
@@ -103,4 +91,4 @@ writtenKind (written.Length l) = 1
 writtenKind (written.Refused k p) = 0
 
 abbrev pub writtenRow : Written → List ℕ
-writtenRow a = writtenKind a ∷ writtenNumber a ∷ writtenPlace a ∷ writtenLength a ∷ 0 ∷ 0 ∷ 0 ∷ 0 ∷ []
+writtenRow a = writtenKind a ∷ writtenNumber a ∷ writtenPlace a ∷ writtenLength a ∷ 0 ∷ 0 ∷ 0 ∷ 0 ∷ 0 ∷ []

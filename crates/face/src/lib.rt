@@ -1,4 +1,4 @@
-// The operations for a caller in C or Rust: numbers and slices in, and out the eight numbers of the answer, stored in a slice that the caller lends.
+// The operations for a caller in C or Rust: numbers and slices in, and out the nine numbers of the answer, stored in a slice that the caller lends.
 // docs/FACE.md says what each number is, and face.h declares the functions.
 mod numbers;
 
@@ -7,10 +7,10 @@ ghost use mathlib.Core.Path.{_≡_};
 ghost use lib.ListN.{length};
 ghost use Rattle.book.specs.Format.{reading};
 ghost use Rattle.book.specs.Writing.{chosenOf, writing, writtenOf, buffer};
-ghost use Rattle.judgement.specs.Answers.{judgedOf, scoredOf, askedOf};
+ghost use Rattle.judgement.specs.Answers.{judgedOf, askedOf};
 ghost use Rattle.judgement.specs.Contraction.{contractedOf};
 ghost use Rattle.search.specs.Answers.{searchedOf};
-ghost use Rattle.face.specs.Numbers.{roomy, stored, readRow, judgedRow, contractedRow, scoredRow, askedRow, searchedRow, writtenRow};
+ghost use Rattle.face.specs.Numbers.{roomy, stored, readRow, judgedRow, contractedRow, askedRow, searchedRow, writtenRow};
 
 // Reads a book.
 #[no_mangle]
@@ -24,7 +24,7 @@ pub extern "C" fn gristvalley_read(s: &[u8], out: &mut [u64]) -> bool
     store(out, row)
 }
 
-// Judges choice n of a book.
+// Judges choice n of a book, and scores it.
 #[no_mangle]
 pub extern "C" fn gristvalley_judge(s: &[u8], n: u32, out: &mut [u64]) -> bool
     ensures { λ r. ⌜ (r ≡ roomy (now (out .entry))) × (now (out .exit) ≡ stored (judgedRow (judgedOf (chosenOf (reading (now (s .entry))) n))) (now (out .entry))) ⌝ }
@@ -41,16 +41,6 @@ pub extern "C" fn gristvalley_contract(s: &[u8], n: u32, out: &mut [u64]) -> boo
 {
     let answer = judgement::contract(s, n);
     let row = numbers::contracted_row(answer);
-    store(out, row)
-}
-
-// Scores choice n of a book.
-#[no_mangle]
-pub extern "C" fn gristvalley_score(s: &[u8], n: u32, out: &mut [u64]) -> bool
-    ensures { λ r. ⌜ (r ≡ roomy (now (out .entry))) × (now (out .exit) ≡ stored (scoredRow (scoredOf (chosenOf (reading (now (s .entry))) n))) (now (out .entry))) ⌝ }
-{
-    let answer = judgement::score(s, n);
-    let row = numbers::scored_row(answer);
     store(out, row)
 }
 

@@ -1,28 +1,26 @@
-// The eight numbers of each answer, and storing them.
+// The nine numbers of each answer, and storing them.
 use book::Answer;
 use book::Book;
 use book::write::Written;
 use judgement::Asked;
 use judgement::Contracted;
 use judgement::Judged;
-use judgement::Scored;
 use judgement::Verdict;
 use search::Finding;
 use search::Searched;
 ghost use mathlib.Core.Path.{_≡_};
-ghost use Rattle.judgement.specs.declared.Judged.the-variants as judged;
 ghost use Rattle.search.specs.declared.Searched.the-variants as searched;
-ghost use Rattle.face.specs.Numbers.{roomy, stored, refusedRow, replyRow, judgedRow, contractedRow, scoredRow, askedRow, searchedRow, writtenRow};
+ghost use Rattle.face.specs.Numbers.{roomy, stored, refusedRow, replyRow, verdictRow, judgedRow, contractedRow, askedRow, searchedRow, writtenRow};
 
 // Stores the numbers at the front of the slice, and tells whether there was room; where there is none, nothing is stored.
-pub(crate) fn store(out: &mut [u64], told: [u64; 8]) -> bool
+pub(crate) fn store(out: &mut [u64], told: [u64; 9]) -> bool
     ensures { λ r. ⌜ (r ≡ roomy (now (out .entry))) × (now (out .exit) ≡ stored told (now (out .entry))) ⌝ }
 {
-    if out.len() < 8 {
+    if out.len() < 9 {
         return false;
     }
     let mut i = 0;
-    while i < 8 {
+    while i < 9 {
         out[i] = told[i];
         i += 1;
     }
@@ -30,14 +28,14 @@ pub(crate) fn store(out: &mut [u64], told: [u64; 8]) -> bool
 }
 
 // A refusal.
-fn refused_row(no: u8, place: usize) -> [u64; 8]
+fn refused_row(no: u8, place: usize) -> [u64; 9]
     ensures { λ r. ⌜ r ≡ refusedRow no place ⌝ }
 {
-    [0, no as u64, place as u64, 0, 0, 0, 0, 0]
+    [0, no as u64, place as u64, 0, 0, 0, 0, 0, 0]
 }
 
 // The reader's answer, and what the book has.
-pub(crate) fn read_row(answer: Answer, b: Book) -> [u64; 8]
+pub(crate) fn read_row(answer: Answer, b: Book) -> [u64; 9]
     ensures { λ r. ⌜ r ≡ replyRow answer b ⌝ }
 {
     match answer {
@@ -50,80 +48,67 @@ pub(crate) fn read_row(answer: Answer, b: Book) -> [u64; 8]
             b.lightpaths as u64,
             b.alternatives as u64,
             b.stations,
+            0,
         ],
         Answer::Refused(no, place) => refused_row(no, place),
     }
 }
 
-// A verdict.
-fn verdict_row(v: Verdict) -> [u64; 8]
-    ensures { λ r. ⌜ r ≡ judgedRow (judged.Told v) ⌝ }
+// A verdict, with two numbers behind it.
+fn verdict_row(v: Verdict, a: u64, b: u64) -> [u64; 9]
+    ensures { λ r. ⌜ r ≡ verdictRow v a b ⌝ }
 {
     match v {
-        Verdict::Over(x, l, w) => [1, 0, 0, x as u64, l as u64, w as u64, 0, 0],
-        Verdict::Split(d) => [2, 0, 0, 0, 0, 0, d, 0],
-        Verdict::Cut(x, d) => [3, 0, 0, x as u64, 0, 0, d, 0],
-        Verdict::Okay => [4, 0, 0, 0, 0, 0, 0, 0],
+        Verdict::Over(x, l, w) => [1, 0, 0, x as u64, l as u64, w as u64, 0, a, b],
+        Verdict::Split(d) => [2, 0, 0, 0, 0, 0, d, a, b],
+        Verdict::Cut(x, d) => [3, 0, 0, x as u64, 0, 0, d, a, b],
+        Verdict::Okay => [4, 0, 0, 0, 0, 0, 0, a, b],
     }
 }
 
 // The answer of `judge`.
-pub(crate) fn judged_row(answer: Judged) -> [u64; 8]
+pub(crate) fn judged_row(answer: Judged) -> [u64; 9]
     ensures { λ r. ⌜ r ≡ judgedRow answer ⌝ }
 {
     match answer {
-        Judged::Told(v) => verdict_row(v),
+        Judged::Told(v, f, c) => verdict_row(v, f as u64, c as u64),
         Judged::Refused(no, place) => refused_row(no, place),
     }
 }
 
 // The answer of `contract`.
-pub(crate) fn contracted_row(answer: Contracted) -> [u64; 8]
+pub(crate) fn contracted_row(answer: Contracted) -> [u64; 9]
     ensures { λ r. ⌜ r ≡ contractedRow answer ⌝ }
 {
     match answer {
-        Contracted::Told(v, merges) => {
-            let mut row = verdict_row(v);
-            row[7] = merges as u64;
-            row
-        }
+        Contracted::Told(v, merges) => verdict_row(v, merges as u64, 0),
         Contracted::Refused(no, place) => refused_row(no, place),
     }
 }
 
-// The answer of `score`.
-pub(crate) fn scored_row(answer: Scored) -> [u64; 8]
-    ensures { λ r. ⌜ r ≡ scoredRow answer ⌝ }
-{
-    match answer {
-        Scored::Told(f, c) => [1, 0, 0, f as u64, c as u64, 0, 0, 0],
-        Scored::Refused(no, place) => refused_row(no, place),
-    }
-}
-
 // The answer of `ask`.
-pub(crate) fn asked_row(answer: Asked) -> [u64; 8]
+pub(crate) fn asked_row(answer: Asked) -> [u64; 9]
     ensures { λ r. ⌜ r ≡ askedRow answer ⌝ }
 {
     match answer {
-        Asked::Told(d, all) => [1, 0, 0, d, all as u64, 0, 0, 0],
+        Asked::Told(d, all) => [1, 0, 0, d, all as u64, 0, 0, 0, 0],
         Asked::Refused(no, place) => refused_row(no, place),
     }
 }
 
 // What was found.
-fn finding_row(f: Finding) -> [u64; 8]
+fn finding_row(f: Finding) -> [u64; 9]
     ensures { λ r. ⌜ r ≡ searchedRow (searched.Told f) ⌝ }
 {
     match f {
-        Finding::Found(n, total) => [1, 0, 0, n as u64, 0, total as u64, 0, 0],
-        Finding::None(total) => [2, 0, 0, 0, 0, total as u64, 0, 0],
-        Finding::More(limit, total) => [3, 0, 0, 0, limit as u64, total as u64, 0, 0],
+        Finding::Found(n, total) => [1, 0, 0, n as u64, 0, total as u64, 0, 0, 0],
+        Finding::None(total) => [2, 0, 0, 0, 0, total as u64, 0, 0, 0],
+        Finding::More(limit, total) => [3, 0, 0, 0, limit as u64, total as u64, 0, 0, 0],
     }
 }
 
 // The answer of `search`.
-pub(crate) fn searched_row(answer: Searched) -> [u64; 8]
+pub(crate) fn searched_row(answer: Searched) -> [u64; 9]
     ensures { λ r. ⌜ r ≡ searchedRow answer ⌝ }
 {
     match answer {
@@ -133,11 +118,11 @@ pub(crate) fn searched_row(answer: Searched) -> [u64; 8]
 }
 
 // The writer's answer.
-pub(crate) fn written_row(answer: Written) -> [u64; 8]
+pub(crate) fn written_row(answer: Written) -> [u64; 9]
     ensures { λ r. ⌜ r ≡ writtenRow answer ⌝ }
 {
     match answer {
-        Written::Length(l) => [1, 0, 0, l as u64, 0, 0, 0, 0],
+        Written::Length(l) => [1, 0, 0, l as u64, 0, 0, 0, 0, 0],
         Written::Refused(no, place) => refused_row(no, place),
     }
 }

@@ -1,7 +1,7 @@
 // The listing of the judgement of a book's choices: for each number n that is tried (0 to T - 1, or seven where T is above 12) these lines:
 //
-//     JUDGE n VERDICT                what `judge` answers: OVER span load limit, SPLIT side, CUT span side, or OK
-//     SCORE n F Fc                   what `score` answers
+//     JUDGE n VERDICT                the verdict that `judge` answers: OVER span load limit, SPLIT side, CUT span side, or OK
+//     SCORE n F Fc                   the score that `judge` answers
 //     ASK n x side whole             what `ask` answers of span x, for all spans, or four where they are more than six; whole is 1 or 0
 //     ASK n x BAD 13 0               and of the number after the last span
 //
@@ -14,7 +14,6 @@ use book::Answer;
 use book::choice::Movables;
 use judgement::Asked;
 use judgement::Judged;
-use judgement::Scored;
 use judgement::Verdict;
 
 // The most choices, and the most spans, that are all tried.
@@ -52,36 +51,35 @@ fn end_verdict(v: Verdict) {
     word(b"\n");
 }
 
-// Prints the line for the verdict on choice `n`.
-fn print_judge(s: &[u8], n: u32) {
-    word(b"JUDGE");
+// Starts a line about choice `n`.
+fn start_line(name: &[u8], n: u32) {
+    word(name);
     number(n as u64);
-    let j = judgement::judge(s, n);
-    match j {
-        Judged::Told(v) => end_verdict(v),
-        Judged::Refused(no, place) => end_refused(no, place),
-    }
 }
 
-// Prints the line for the score of choice `n`.
-fn print_score(s: &[u8], n: u32) {
-    word(b"SCORE");
-    number(n as u64);
-    let j = judgement::score(s, n);
+// Prints the lines for the verdict on choice `n` and its score.
+fn print_judge(s: &[u8], n: u32) {
+    let j = judgement::judge(s, n);
+    start_line(b"JUDGE", n);
     match j {
-        Scored::Told(f, fc) => {
+        Judged::Told(v, f, fc) => {
+            end_verdict(v);
+            start_line(b"SCORE", n);
             number(f as u64);
             number(fc as u64);
             word(b"\n");
         }
-        Scored::Refused(no, place) => end_refused(no, place),
+        Judged::Refused(no, place) => {
+            end_refused(no, place);
+            start_line(b"SCORE", n);
+            end_refused(no, place);
+        }
     }
 }
 
 // Prints the line for the question about span `x` in choice `n`.
 fn print_ask(s: &[u8], n: u32, x: u32) {
-    word(b"ASK");
-    number(n as u64);
+    start_line(b"ASK", n);
     number(x as u64);
     let j = judgement::ask(s, n, x);
     match j {
@@ -112,7 +110,6 @@ fn print_asks(s: &[u8], n: u32, spans: u32) {
 // Prints the lines for choice `n`.
 fn print_choice(s: &[u8], n: u32, spans: u32) {
     print_judge(s, n);
-    print_score(s, n);
     print_asks(s, n, spans);
 }
 
@@ -136,7 +133,6 @@ fn print_choices(s: &[u8], t: u32, spans: u32) {
 // Prints the three lines that are refused for number `n`.
 fn print_refused(s: &[u8], n: u32, x: u32) {
     print_judge(s, n);
-    print_score(s, n);
     print_ask(s, n, x);
 }
 

@@ -2,7 +2,7 @@
 use Prim.Native.Nat.{ℕ, _≤_}
 use mathlib.Core.Path.{_≡_, sym, ap, _∙_}
 use mathlib.Core.Bool.{Bool, true, false}
-use mathlib.Core.List.{List, [], _∷_, _++_}
+use mathlib.Core.List.{List, [], _∷_, _++_, append-assoc}
 use native.Mathlib.Omega.{arith}
 use lib.ListN.{length, take, length-append}
 use Rattle.book.specs.declared.Book.{Book}
@@ -22,7 +22,7 @@ use Rattle.book.proofs.Chosen.{choice-fits, chosen-sizes, chosen-none}
 use Rattle.book.proofs.Written.{total-is, such-a-choice}
 use Rattle.book.proofs.ReadBack.{Denied, at-fault, no-choice, no-room, number-served, number-denied, room-enough}
 use Rattle.judgement.specs.Judgement.{verdict, scoreF, scoreFc}
-use Rattle.judgement.specs.Answers.{judgedOf, scoredOf, askedOf}
+use Rattle.judgement.specs.Answers.{judgedOf, askedOf}
 use Rattle.judgement.specs.declared.Asked.{Asked}
 use Rattle.judgement.specs.declared.Asked.the-variants as asked
 use Rattle.search.specs.Search.{finding}
@@ -31,7 +31,7 @@ use Rattle.listing.specs.Text.{textOf}
 use Rattle.listing.specs.Report.{wordBOOK, wordSCORE, bookLine, verdictLine, scoreLine, findingLine, movesOf, endLine}
 use Rattle.listing.specs.Commands.{wordCHOICE, wordCHOICES, wordJOINED, wordPARTED, wordWRITTEN, choiceLine, joinedLine, choicesLine, writtenLine}
 use Rattle.listing.specs.Commands.{judgeOf, openOf, searchOf, readOf, writeOf}
-use Rattle.listing.specs.Inside.{Holds, judgedLine, scoredLine, searchedLines, choiceLines}
+use Rattle.listing.specs.Inside.{Holds, judgedLines, searchedLines, choiceLines}
 use Rattle.listing.specs.declared.text.Text.{Text}
 use Rattle.listing.proofs.Texts.{text-whole}
 use Rattle.listing.proofs.Reports.{behind-short, side-short, verdict-short, finding-short, moved-short, bad-short}
@@ -43,7 +43,8 @@ total-of m h e p = p ∙ ap (λ (w : Movables). product (sizesIn w)) e ∙ total
 module _ (m : RouteBook) (s : List ℕ) (n : ℕ) where
   pub judge-good : chosenOf (reading s) n ≡ good m → choiceLines n m s ≡ judgeOf n (chosenOf (reading s) n)
   judge-good e =
-      ap (λ (g : Reading). choiceLine n (choices m) ++ (judgedLine (judgedOf g) ++ (scoredLine (scoredOf g) ++ endLine))) e
+      ap (λ (g : Reading). choiceLine n (choices m) ++ (judgedLines (judgedOf g) ++ endLine)) e
+      ∙ ap (λ (x : List ℕ). choiceLine n (choices m) ++ x) (append-assoc (verdictLine (verdict m)) (scoreLine (scoreF m) (scoreFc m)) endLine)
       ∙ sym (ap (λ (g : Reading). judgeOf n g) e)
 
   pub search-good : reading s ≡ good m → searchedLines m (searchedOf (reading s) n) ++ endLine ≡ searchOf n (reading s)

@@ -1,8 +1,8 @@
--- The report by the answers of the operations is the report on the book: choice 0 of a well-formed book is there to be judged and scored, and the book's own
--- bytes are searched.
+-- The report by the answers of the operations is the report on the book: choice 0 of a well-formed book is there to be judged, and the book's own bytes are
+-- searched.
 use mathlib.Core.Path.{_≡_, sym, ap, _∙_}
 use mathlib.Core.Bool.{Bool, true, false, cond}
-use mathlib.Core.List.{List, [], _∷_, _++_}
+use mathlib.Core.List.{List, [], _∷_, _++_, append-assoc}
 use Prim.Native.Nat.{ℕ, zero, suc, _+_, _*_, _≤_}
 use native.Mathlib.Omega.{arith}
 use lib.Dec.{eqb}
@@ -18,7 +18,7 @@ use Rattle.book.specs.declared.Answer.the-variants.{Refused}
 use Rattle.book.proofs.Choices.{choices-some}
 use Rattle.book.proofs.Written.{reply-refused}
 use Rattle.judgement.specs.Judgement.{verdict, scoreF, scoreFc}
-use Rattle.judgement.specs.Answers.{judgedOf, scoredOf}
+use Rattle.judgement.specs.Answers.{judgedOf}
 use Rattle.judgement.specs.declared.Verdict.{Verdict}
 use Rattle.judgement.specs.declared.Verdict.the-variants.{Over, Split, Cut, Okay}
 use Rattle.search.specs.Search.{finding}
@@ -28,7 +28,7 @@ use Rattle.search.specs.declared.Finding.the-variants.{Found, None, More}
 use Rattle.listing.specs.Text.{decimal, hex, textOf}
 use Rattle.listing.specs.Report.{wordBOOK, wordOVER, wordSPLIT, wordCUT, wordSCORE, wordFOUND, wordNONE, wordMORE, wordMOVE, wordBAD, numbers, line, sideLine}
 use Rattle.listing.specs.Report.{bookLine, verdictLine, scoreLine, findingLine, moveLine, moveLines, movesOf, endLine, badLine, badText, reportLimit, reportOf}
-use Rattle.listing.specs.Inside.{judgedLine, scoredLine, searchedLines, goodLines}
+use Rattle.listing.specs.Inside.{judgedLines, searchedLines, goodLines}
 use Rattle.listing.specs.declared.text.Text.{Text}
 use Rattle.listing.proofs.Texts.{text-whole}
 use Rattle.listing.proofs.Spelling.{spelled-long, decimal-short}
@@ -44,10 +44,14 @@ module _ (m : RouteBook) (fits : wellFormed m ≡ true) where
 
   -- the lines by what reading and choosing give
   abbrev by : Reading → Reading → List ℕ
-  by g c = bookLine m ++ (judgedLine (judgedOf c) ++ (scoredLine (scoredOf c) ++ (searchedLines m (searchedOf g reportLimit) ++ endLine)))
+  by g c = bookLine m ++ (judgedLines (judgedOf c) ++ (searchedLines m (searchedOf g reportLimit) ++ endLine))
 
   pub report-good : (s : List ℕ) → reading s ≡ good m → goodLines m s ≡ reportOf (good m)
-  report-good s e = ap (λ (g : Reading). by g (chosenOf g 0)) e ∙ ap (by (good m)) first-choice
+  report-good s e =
+      let c = chosen m 0 in
+      ap (λ (g : Reading). by g (chosenOf g 0)) e
+      ∙ ap (by (good m)) first-choice
+      ∙ ap (λ (x : List ℕ). bookLine m ++ x) (append-assoc (verdictLine (verdict c)) (scoreLine (scoreF c) (scoreFc c)) (searchedLines m (searchedOf (good m) reportLimit) ++ endLine))
 
 -- THE REPORT IS SHORT: a number takes at most 20 digits, so that no line is longer than 89 bytes and the report never longer than 633
 module _ (w : List ℕ) where

@@ -9,12 +9,10 @@ use Rattle.book.specs.Format.{reading}
 use Rattle.book.specs.Memory.{bookOf}
 use Rattle.book.specs.Choice.{choices}
 use Rattle.book.specs.Writing.{chosenOf}
-use Rattle.judgement.specs.Answers.{judgedOf, scoredOf}
+use Rattle.judgement.specs.Answers.{judgedOf}
 use Rattle.search.specs.Answers.{searchedOf}
 use Rattle.judgement.specs.declared.Judged.{Judged}
 use Rattle.judgement.specs.declared.Judged.the-variants as judged
-use Rattle.judgement.specs.declared.Scored.{Scored}
-use Rattle.judgement.specs.declared.Scored.the-variants as scored
 use Rattle.search.specs.declared.Searched.{Searched}
 use Rattle.search.specs.declared.Searched.the-variants as searched
 use Rattle.listing.specs.Text.{textOf}
@@ -35,13 +33,9 @@ pub record Holds (b : Book) (m : RouteBook) : Type 0 where
   pub fits : wellFormed m ≡ true
 
 -- the lines of an answer, also where it is a refusal
-abbrev pub judgedLine : Judged → List ℕ
-judgedLine (judged.Told v) = verdictLine v
-judgedLine (judged.Refused k p) = badLine k p
-
-abbrev pub scoredLine : Scored → List ℕ
-scoredLine (scored.Told f c) = scoreLine f c
-scoredLine (scored.Refused k p) = badLine k p
+abbrev pub judgedLines : Judged → List ℕ
+judgedLines (judged.Told v f c) = verdictLine v ++ scoreLine f c
+judgedLines (judged.Refused k p) = badLine k p
 
 abbrev pub searchedLines : RouteBook → Searched → List ℕ
 searchedLines m (searched.Told f) = findingLine f ++ movesOf m f
@@ -49,13 +43,11 @@ searchedLines m (searched.Refused k p) = badLine k p
 
 -- the lines of the report on the book m, by the answers of the operations on its bytes
 abbrev pub goodLines : RouteBook → List ℕ → List ℕ
-goodLines m s =
-    bookLine m
-    ++ (judgedLine (judgedOf (chosenOf (reading s) 0)) ++ (scoredLine (scoredOf (chosenOf (reading s) 0)) ++ (searchedLines m (searchedOf (reading s) reportLimit) ++ endLine)))
+goodLines m s = bookLine m ++ (judgedLines (judgedOf (chosenOf (reading s) 0)) ++ (searchedLines m (searchedOf (reading s) reportLimit) ++ endLine))
 
 -- the lines of `judge` on choice n, of which the book is c, likewise
 abbrev pub choiceLines : ℕ → RouteBook → List ℕ → List ℕ
-choiceLines n c s = choiceLine n (choices c) ++ (judgedLine (judgedOf (chosenOf (reading s) n)) ++ (scoredLine (scoredOf (chosenOf (reading s) n)) ++ endLine))
+choiceLines n c s = choiceLine n (choices c) ++ (judgedLines (judgedOf (chosenOf (reading s) n)) ++ endLine)
 
 -- a number that may be too great; and what a word is with one digit more, and with one byte more, by what it is without it
 abbrev pub fitted : ℕ → Parsed

@@ -1,7 +1,6 @@
 // What each command prints: a question about a book, answered in a few lines and END, or a refusal. docs/COMMANDS.md says what each is.
-use crate::judged_line;
+use crate::judged_lines;
 use crate::lines;
-use crate::scored_line;
 use crate::searched_lines;
 use crate::text::Text;
 use book::Answer;
@@ -27,9 +26,8 @@ fn choice_lines(s: &[u8], n: u32, b: Book) -> Text
     let total = w.total();
     let none = Text::none();
     let first = lines::choice_line(none, n, total);
-    let second = judged_line(first, s, n);
-    let third = scored_line(second, s, n);
-    lines::end_line(third)
+    let second = judged_lines(first, s, n);
+    lines::end_line(second)
 }
 
 // The verdict and the score of choice n.

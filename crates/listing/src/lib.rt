@@ -8,7 +8,6 @@ pub mod text;
 use book::Answer;
 use book::Book;
 use judgement::Judged;
-use judgement::Scored;
 use search::Finding;
 use search::Searched;
 use text::Text;
@@ -17,31 +16,23 @@ ghost use mathlib.Core.List.{_++_};
 ghost use Rattle.book.specs.Book.{RouteBook};
 ghost use Rattle.book.specs.Format.{reading};
 ghost use Rattle.book.specs.Writing.{chosenOf};
-ghost use Rattle.judgement.specs.Answers.{judgedOf, scoredOf};
+ghost use Rattle.judgement.specs.Answers.{judgedOf};
 ghost use Rattle.search.specs.Answers.{searchedOf};
 ghost use Rattle.listing.specs.Text.{textOf};
 ghost use Rattle.listing.specs.Report.{findingLine, movesOf, reportOf};
-ghost use Rattle.listing.specs.Inside.{Adds, Holds, judgedLine, scoredLine, searchedLines, goodLines};
+ghost use Rattle.listing.specs.Inside.{Adds, Holds, judgedLines, searchedLines, goodLines};
 
-// The verdict on choice n.
-pub(crate) fn judged_line(t: Text, s: &[u8], n: u32) -> Text
-    ensures { λ r. ⌜ Adds t (judgedLine (judgedOf (chosenOf (reading (now (s .entry))) n))) r ⌝ }
+// The verdict on choice n, and its score.
+pub(crate) fn judged_lines(t: Text, s: &[u8], n: u32) -> Text
+    ensures { λ r. ⌜ Adds t (judgedLines (judgedOf (chosenOf (reading (now (s .entry))) n))) r ⌝ }
 {
     let answer = judgement::judge(s, n);
     match answer {
-        Judged::Told(v) => lines::verdict_line(t, v),
+        Judged::Told(v, f, c) => {
+            let first = lines::verdict_line(t, v);
+            lines::score_line(first, f, c)
+        }
         Judged::Refused(no, place) => lines::bad_line(t, no, place),
-    }
-}
-
-// The score of choice n.
-pub(crate) fn scored_line(t: Text, s: &[u8], n: u32) -> Text
-    ensures { λ r. ⌜ Adds t (scoredLine (scoredOf (chosenOf (reading (now (s .entry))) n))) r ⌝ }
-{
-    let answer = judgement::score(s, n);
-    match answer {
-        Scored::Told(f, c) => lines::score_line(t, f, c),
-        Scored::Refused(no, place) => lines::bad_line(t, no, place),
     }
 }
 
@@ -74,10 +65,9 @@ fn good_report(s: &[u8], b: Book) -> Text
 {
     let none = Text::none();
     let first = lines::book_line(none, b);
-    let second = judged_line(first, s, 0);
-    let third = scored_line(second, s, 0);
-    let fourth = searched_lines(third, s, b, 65536);
-    lines::end_line(fourth)
+    let second = judged_lines(first, s, 0);
+    let third = searched_lines(second, s, b, 65536);
+    lines::end_line(third)
 }
 
 // The report on a book: what it has, the verdict and the score of choice 0, and what the search finds within 65,536 trials; or its refusal.

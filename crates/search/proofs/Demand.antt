@@ -13,14 +13,16 @@ use Rattle.book.specs.Choice.{choices, chosen}
 use Rattle.book.specs.Writing.{chosenOf}
 use Rattle.book.proofs.Readers.{Bytes}
 use Rattle.book.proofs.Format.{reading-back, reading-only}
+use Rattle.book.proofs.Chosen.{choice-fits}
 use Rattle.book.proofs.Written.{such-a-choice, no-such-choice}
 use Rattle.judgement.specs.declared.Verdict.the-variants.{Okay}
 use Rattle.judgement.specs.declared.Judged.{Judged}
 use Rattle.judgement.specs.declared.Judged.the-variants as judged
-use Rattle.judgement.specs.Judgement.{verdict, isOkay}
+use Rattle.judgement.specs.Judgement.{verdict, isOkay, acceptable}
 use Rattle.judgement.specs.Cuts.{Survives, CutForm}
 use Rattle.judgement.specs.Answers.{judgedOf}
 use Rattle.judgement.proofs.Verdicts.{okay-only}
+use Rattle.judgement.proofs.Scores.{okay-scores}
 use Rattle.judgement.proofs.Demand.{Meets, okay-joined, okay-means}
 use Rattle.search.specs.declared.Finding.{Finding}
 use Rattle.search.specs.declared.Finding.the-variants.{Found, None, More}
@@ -33,9 +35,9 @@ use Rattle.search.proofs.Findings.{found-exact, none-exact, more-exact}
 use Rattle.search.proofs.Told.{tells}
 
 module _ (s : List ℕ) where
-  -- `judge` answers OK for choice n of the bytes s, by its contract
+  -- `judge` answers OK for choice n of the bytes s, by its contract; the scores are then nought
   abbrev pub JudgedOkay : ℕ → Type 0
-  JudgedOkay n = judgedOf (chosenOf (reading s) n) ≡ judged.Told Okay
+  JudgedOkay n = judgedOf (chosenOf (reading s) n) ≡ judged.Told Okay 0 0
 
   -- and for no choice below x
   abbrev pub NoneOkay : ℕ → Type 0
@@ -48,13 +50,20 @@ module _ (s : List ℕ) where
     pub written : encode book ≡ s
     pub is : t ≡ choices book
 
+-- an acceptable book is judged OK, with scores of nought
+pub accepted-judged : (c : RouteBook) → wellFormed c ≡ true → acceptable c ≡ true → judgedOf (good c) ≡ judged.Told Okay 0 0
+accepted-judged c fits e =
+    let v = okay-only (verdict c) e in
+    let z = okay-scores c fits v in
+    rw (v, z .0, z .1)
+
 -- what `judge` says of a choice of a good book
-module _ (s : List ℕ) (m : RouteBook) (reads : reading s ≡ good m) where
-  judged-is : (n : ℕ) → n < choices m → judgedOf (chosenOf (reading s) n) ≡ judged.Told (verdict (chosen m n))
+module _ (s : List ℕ) (bytes : Bytes s) (m : RouteBook) (reads : reading s ≡ good m) where
+  judged-is : (n : ℕ) → n < choices m → judgedOf (chosenOf (reading s) n) ≡ judgedOf (good (chosen m n))
   judged-is n l = ap (λ (g : Reading). judgedOf (chosenOf g n)) reads ∙ ap judgedOf (such-a-choice m n l)
 
   to-judged : (n : ℕ) → n < choices m → acceptableAt m n ≡ true → JudgedOkay s n
-  to-judged n l e = judged-is n l ∙ ap judged.Told (okay-only (verdict (chosen m n)) e)
+  to-judged n l e = judged-is n l ∙ accepted-judged (chosen m n) (choice-fits m n (reading-only s m bytes reads .1)) e
 
   from-judged : (n : ℕ) → JudgedOkay s n → (n < choices m) × (acceptableAt m n ≡ true)
   from-judged n j = elim (decLt n (choices m)) [
@@ -62,10 +71,10 @@ module _ (s : List ℕ) (m : RouteBook) (reads : reading s ≡ good m) where
     | no l ↦ none (ap (λ (g : Reading). judgedOf g) (sym (ap (λ (g : Reading). chosenOf g n) reads ∙ no-such-choice m n (omega arith))) ∙ j)
   ]
     where
-      told : n < choices m → judged.Told (verdict (chosen m n)) ≡ judged.Told Okay → acceptableAt m n ≡ true
+      told : n < choices m → judgedOf (good (chosen m n)) ≡ judged.Told Okay 0 0 → acceptableAt m n ≡ true
       told l e = let v : verdict (chosen m n) ≡ Okay = cc in ap isOkay v
 
-      none : judged.Refused 12 0 ≡ judged.Told Okay → (n < choices m) × (acceptableAt m n ≡ true)
+      none : judged.Refused 12 0 ≡ judged.Told Okay 0 0 → (n < choices m) × (acceptableAt m n ≡ true)
       none e = let z : _≡_ {A = ℕ} 0 1 = cc in absurd (omega arith)
 
   -- so for the numbers below x
@@ -97,13 +106,13 @@ module _ (s : List ℕ) (limit : ℕ) (h : Bytes s) (r : Searched) (met : r ≡ 
           let x = tells s limit r met e in
           let m = x .book in
           let p = found-exact m limit n t .0 (x .is) in
-          (p .0, to-judged s m (x .reads) n (p .1) (p .2), none-judged s m (x .reads) n (p .3), counts-of m (x .reads) (p .4))
+          (p .0, to-judged s h m (x .reads) n (p .1) (p .2), none-judged s h m (x .reads) n (p .3), counts-of m (x .reads) (p .4))
 
       from : (n < limit) × JudgedOkay s n × NoneOkay s n × Counts s t → r ≡ Told (Found n t)
       from p =
           let c = p .3 in
-          let j = from-judged s (c .book) (reads-as c) n (p .1) in
-          let below = judged-none s (c .book) (reads-as c) n (omega (arith, j .0)) (p .2) in
+          let j = from-judged s h (c .book) (reads-as c) n (p .1) in
+          let below = judged-none s h (c .book) (reads-as c) n (omega (arith, j .0)) (p .2) in
           searched c (found-exact (c .book) limit n t .1 (p .0, j .0, j .1, below, c .is))
 
   pub none-means : (t : ℕ) → (r ≡ Told (None t)) ↔ ((t ≤ limit) × ((k : ℕ) → JudgedOkay s k → ⊥) × Counts s t)
@@ -114,13 +123,13 @@ module _ (s : List ℕ) (limit : ℕ) (h : Bytes s) (r : Searched) (met : r ≡ 
           let x = tells s limit r met e in
           let m = x .book in
           let p = none-exact m limit t .0 (x .is) in
-          let none = none-judged s m (x .reads) (choices m) (p .1) in
-          (omega (arith, p .0, p .2), (λ k j. none k (from-judged s m (x .reads) k j .0) j), counts-of m (x .reads) (p .2))
+          let none = none-judged s h m (x .reads) (choices m) (p .1) in
+          (omega (arith, p .0, p .2), (λ k j. none k (from-judged s h m (x .reads) k j .0) j), counts-of m (x .reads) (p .2))
 
       from : (t ≤ limit) × ((k : ℕ) → JudgedOkay s k → ⊥) × Counts s t → r ≡ Told (None t)
       from p =
           let c = p .2 in
-          let all = judged-none s (c .book) (reads-as c) (choices (c .book)) (omega arith) (λ k l. p .1 k) in
+          let all = judged-none s h (c .book) (reads-as c) (choices (c .book)) (omega arith) (λ k l. p .1 k) in
           searched c (none-exact (c .book) limit t .1 (omega (arith, p .0, c .is), all, c .is))
 
   pub more-means : (b t : ℕ) → (r ≡ Told (More b t)) ↔ ((limit < t) × NoneOkay s limit × (b ≡ limit) × Counts s t)
@@ -131,13 +140,13 @@ module _ (s : List ℕ) (limit : ℕ) (h : Bytes s) (r : Searched) (met : r ≡ 
           let x = tells s limit r met e in
           let m = x .book in
           let p = more-exact m limit b t .0 (x .is) in
-          (omega (arith, p .0, p .3), none-judged s m (x .reads) limit (p .1), p .2, counts-of m (x .reads) (p .3))
+          (omega (arith, p .0, p .3), none-judged s h m (x .reads) limit (p .1), p .2, counts-of m (x .reads) (p .3))
 
       from : (limit < t) × NoneOkay s limit × (b ≡ limit) × Counts s t → r ≡ Told (More b t)
       from p =
           let c = p .3 in
           let within : limit < choices (c .book) = omega (arith, p .0, c .is) in
-          let below = judged-none s (c .book) (reads-as c) limit (omega (arith, within)) (p .1) in
+          let below = judged-none s h (c .book) (reads-as c) limit (omega (arith, within)) (p .1) in
           searched c (more-exact (c .book) limit b t .1 (within, below, p .2, c .is))
 
   -- so no span is over in a choice that was found, and it survives, in both forms

@@ -21,15 +21,15 @@ use Rattle.book.proofs.ReadBack.{Denied, at-fault, no-choice, no-room, number-s
 use Rattle.judgement.specs.declared.Verdict.the-variants.{Okay}
 use Rattle.judgement.specs.declared.Judged.{Judged}
 use Rattle.judgement.specs.declared.Judged.the-variants as judged
-use Rattle.judgement.specs.Judgement.{verdict, acceptable}
+use Rattle.judgement.specs.Judgement.{acceptable}
 use Rattle.judgement.specs.Answers.{judgedOf}
-use Rattle.judgement.proofs.Verdicts.{okay-only}
 use Rattle.search.specs.declared.Finding.the-variants.{Found}
 use Rattle.search.specs.declared.Searched.{Searched}
 use Rattle.search.specs.declared.Searched.the-variants.{Told}
 use Rattle.search.specs.Answers.{searchedOf}
 use Rattle.search.proofs.Findings.{found-exact}
 use Rattle.search.proofs.Told.{Tells, tells}
+use Rattle.search.proofs.Demand.{accepted-judged}
 
 -- r is the answer of `search` for the bytes s; w is that of `write` for choice n of them, and x the buffer `out` afterwards
 module _ (s : List ℕ) (h : Bytes s) (limit n t : ℕ) (r : Searched) (searched : r ≡ searchedOf (reading s) limit) (is-found : r ≡ Told (Found n t))
@@ -74,13 +74,13 @@ module _ (s : List ℕ) (h : Bytes s) (limit n t : ℕ) (r : Searched) (searched
       b .back ∙ ap (λ (m : RouteBook). good (chosen m n)) same
 
   -- THE SENTENCE: unless the buffer is too short, the writing is served, and v, the answer of `judge` for choice 0 of the bytes written, is OK
-  pub found-written : (writtenNumber w ≡ 11 → ⊥) → (v : Judged) → v ≡ judgedOf (chosenOf (reading bytes) 0) → (writtenNumber w ≡ 0) × (v ≡ judged.Told Okay)
+  pub found-written : (writtenNumber w ≡ 11 → ⊥) → (v : Judged) → v ≡ judgedOf (chosenOf (reading bytes) 0) → (writtenNumber w ≡ 0) × (v ≡ judged.Told Okay 0 0)
   found-written ne v told =
       let m = it .book in
       let c = chosen m n in
       let z = served ne in
       let first : chosenOf (good c) 0 ≡ good c = such-a-choice c 0 (choices-some c (choice-fits m n fits)) ∙ ap good (chosen-none c) in
-      (z, told ∙ ap (λ (g : Reading). judgedOf (chosenOf g 0)) (reads-back z) ∙ ap judgedOf first ∙ ap judged.Told (okay-only (verdict c) accepted))
+      (z, told ∙ ap (λ (g : Reading). judgedOf (chosenOf g 0)) (reads-back z) ∙ ap judgedOf first ∙ accepted-judged c (choice-fits m n fits) accepted)
 
   -- and with any limit but 0, the search of those bytes finds choice 0
   pub found-again : (writtenNumber w ≡ 11 → ⊥) → (limit′ : ℕ) → 0 < limit′ → (q : Searched) → q ≡ searchedOf (reading bytes) limit′ → q ≡ Told (Found 0 t)

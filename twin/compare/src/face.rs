@@ -1,4 +1,4 @@
-//! The proved library as safe functions on slices. Each stores the eight numbers of its answer in `out`, if there is room, and says so.
+//! The proved library as safe functions on slices. Each stores the nine numbers of its answer in `out`, if there is room, and says so.
 
 mod linked {
     extern "C" {
@@ -11,13 +11,6 @@ mod linked {
             room: usize,
         ) -> bool;
         pub fn gristvalley_contract(
-            book: *const u8,
-            len: usize,
-            choice: u32,
-            out: *mut u64,
-            room: usize,
-        ) -> bool;
-        pub fn gristvalley_score(
             book: *const u8,
             len: usize,
             choice: u32,
@@ -59,7 +52,7 @@ pub fn read(book: &[u8], out: &mut [u64]) -> bool {
     unsafe { linked::gristvalley_read(book.as_ptr(), book.len(), out.as_mut_ptr(), out.len()) }
 }
 
-/// Judges a choice.
+/// Judges a choice, and scores it.
 pub fn judge(book: &[u8], choice: u32, out: &mut [u64]) -> bool {
     unsafe {
         linked::gristvalley_judge(
@@ -76,19 +69,6 @@ pub fn judge(book: &[u8], choice: u32, out: &mut [u64]) -> bool {
 pub fn contract(book: &[u8], choice: u32, out: &mut [u64]) -> bool {
     unsafe {
         linked::gristvalley_contract(
-            book.as_ptr(),
-            book.len(),
-            choice,
-            out.as_mut_ptr(),
-            out.len(),
-        )
-    }
-}
-
-/// Scores a choice.
-pub fn score(book: &[u8], choice: u32, out: &mut [u64]) -> bool {
-    unsafe {
-        linked::gristvalley_score(
             book.as_ptr(),
             book.len(),
             choice,

@@ -1,7 +1,7 @@
 //! Holding the two against each other on one book: every operation, with numbers in range and out of it.
 
 use crate::face;
-use crate::wanted::{self, Eight};
+use crate::wanted::{self, Nine};
 use std::collections::BTreeMap;
 use twin::generate::{numbers, Random};
 use twin::numbering::total;
@@ -37,6 +37,11 @@ pub fn hold(bytes: &[u8], seed: u64, counts: &mut Counts) -> Vec<String> {
     holding.differences
 }
 
+/// The verdict on a choice and its score, which the twin tells one by one.
+fn judged(bytes: &[u8], choice: u32) -> Result<(Verdict, (u32, u32)), Refusal> {
+    Ok((twin::judge(bytes, choice)?, twin::score(bytes, choice)?))
+}
+
 impl Holding<'_> {
     /// A pattern, so that a place which is written by mistake is seen.
     fn pattern(&mut self, length: usize) -> Vec<u64> {
@@ -48,19 +53,19 @@ impl Holding<'_> {
         &mut self,
         name: &'static str,
         input: &[u32],
-        wanted: Eight,
+        wanted: Nine,
         call: impl FnOnce(&[u8], &mut [u64]) -> bool,
     ) {
         *self.counts.entry((name, wanted[0], wanted[1])).or_default() += 1;
-        let length = *self.random.pick(&[8, 8, 8, 9, 9, 20, 7, 0]);
+        let length = *self.random.pick(&[9, 9, 9, 10, 10, 20, 8, 0]);
         let before = self.pattern(length);
         let mut expected = before.clone();
-        if let Some(front) = expected.get_mut(..8) {
+        if let Some(front) = expected.get_mut(..9) {
             front.copy_from_slice(&wanted);
         }
         let mut out = before;
         let room = call(self.bytes, &mut out);
-        if room != (length >= 8) || out != expected {
+        if room != (length >= 9) || out != expected {
             let line = format!(
                 "{name} {input:?}, out of {length}: {expected:?} by the twin, and {room} {out:?}"
             );
@@ -138,7 +143,7 @@ impl Holding<'_> {
         self.same("read", &[], read, face::read);
         let (choices, spans, limits) = self.drawn();
         for &choice in &choices {
-            let judged = wanted::judged(twin::judge(self.bytes, choice));
+            let judged = wanted::judged(judged(self.bytes, choice));
             self.same("judge", &[choice], judged, |s, out| {
                 face::judge(s, choice, out)
             });
@@ -154,10 +159,6 @@ impl Holding<'_> {
             });
         }
         for &choice in &choices[1..] {
-            let scored = wanted::scored(twin::score(self.bytes, choice));
-            self.same("score", &[choice], scored, |s, out| {
-                face::score(s, choice, out)
-            });
             self.written(choice);
         }
         for (&choice, &span) in choices[1..].iter().zip(&spans) {

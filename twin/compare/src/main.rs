@@ -73,12 +73,11 @@ fn save(folder: &Path, name: &str, bytes: &[u8], differences: &[String]) -> io::
 
 /// The kinds of answer that an operation has: how many are told, and the numbers of its own refusals beside those of a book. What contraction comes to is
 /// counted besides, and is never refused.
-const KINDS: [(&str, u64, Option<&[u64]>); 8] = [
+const KINDS: [(&str, u64, Option<&[u64]>); 7] = [
     ("read", 1, Some(&[])),
     ("judge", 4, Some(&[12])),
     ("contract", 4, Some(&[12])),
     ("pieces", 3, None),
-    ("score", 1, Some(&[12])),
     ("ask", 1, Some(&[12, 13])),
     ("search", 3, Some(&[])),
     ("write", 1, Some(&[11, 12])),

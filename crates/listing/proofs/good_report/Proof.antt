@@ -11,11 +11,8 @@ none-requires c κs = search needs
 book-line-requires : tie.Need-book-line-requires
 book-line-requires c κs = search needs
 
-judged-line-requires : tie.Need-judged-line-requires
-judged-line-requires c κs = search needs
-
-scored-line-requires : tie.Need-scored-line-requires
-scored-line-requires c κs = search needs
+judged-lines-requires : tie.Need-judged-lines-requires
+judged-lines-requires c κs = search needs
 
 searched-lines-requires : tie.Need-searched-lines-requires
 searched-lines-requires c κs = search needs
@@ -25,7 +22,7 @@ end-line-requires c κs = search needs
 
 returns : tie.Need-returns
 returns c = λ m h.
-    (adds-then (c .before .before .before .before .book-line .ensures m (h .is)) (adds-then (c .before .before .before .judged-line .ensures) (adds-then (c .before .before .scored-line .ensures) (adds-then (c .before .searched-lines .ensures m h) (c .end-line .ensures))))) .shows [] (c .before .before .before .before .before .none .ensures)
+    (adds-then (c .before .before .before .book-line .ensures m (h .is)) (adds-then (c .before .before .judged-lines .ensures) (adds-then (c .before .searched-lines .ensures m h) (c .end-line .ensures)))) .shows [] (c .before .before .before .before .none .ensures)
 
 pub good-report-spec : {M : Type 1} → statement M
 good-report-spec =
@@ -33,8 +30,7 @@ good-report-spec =
     (tie.spec
     none-requires
     book-line-requires
-    judged-line-requires
-    scored-line-requires
+    judged-lines-requires
     searched-lines-requires
     end-line-requires
     returns)

@@ -28,7 +28,7 @@ refused-row-requires c κs = search needs
 returns : tie.Need-returns
 returns c =
     let told = c .before .answer .given .0 in
-    ap (λ (t : ℕ). 1 ∷ 0 ∷ 0 ∷ told .0 ∷ t ∷ 0 ∷ 0 ∷ 0 ∷ []) (as-number (told .1 .0)) ∙ ap askedRow (sym (c .before .answer .given .1))
+    ap (λ (t : ℕ). 1 ∷ 0 ∷ 0 ∷ told .0 ∷ t ∷ 0 ∷ 0 ∷ 0 ∷ 0 ∷ []) (as-number (told .1 .0)) ∙ ap askedRow (sym (c .before .answer .given .1))
 
 returns-2 : tie.Need-returns-2
 returns-2 c = c .refused-row .ensures ∙ ap askedRow (sym (c .before .before .answer2 .given .1))

@@ -1,8 +1,5 @@
--- The numbers are those of the verdict, with the number of merges in the last place; or those of the refusal.
+-- The numbers are those of the verdict, with the number of merges behind them; or those of the refusal.
 use mathlib.Core.Path.{sym, ap, _∙_}
-use mathlib.Core.List.{List}
-use Prim.Native.Nat.{ℕ}
-use lib.ListN.{set}
 use Rattle.face.specs.Numbers.{contractedRow}
 use borrow.Author.Needs.{needs}
 use Rattle.face.proofs.numbers.contracted_row.Statement.{statement}
@@ -11,14 +8,11 @@ use Rattle.face.proofs.numbers.contracted_row.Tie as tie
 enum-known-answer : tie.Need-enum-known-answer
 enum-known-answer c = search needs
 
+cast-verdict-row : tie.Need-cast-verdict-row
+cast-verdict-row c = search needs
+
 verdict-row-requires : tie.Need-verdict-row-requires
 verdict-row-requires c κs = search needs
-
-cast-row : tie.Need-cast-row
-cast-row c = search needs
-
-array-write-row : tie.Need-array-write-row
-array-write-row c = search needs
 
 enum-known-answer-2 : tie.Need-enum-known-answer-2
 enum-known-answer-2 c = search needs
@@ -27,7 +21,7 @@ refused-row-requires : tie.Need-refused-row-requires
 refused-row-requires c κs = search needs
 
 returns : tie.Need-returns
-returns c = ap (λ (x : List ℕ). set x 7 (c .before .before .answer .given .0 .1 .0)) (c .verdict-row .ensures) ∙ ap contractedRow (sym (c .before .before .answer .given .1))
+returns c = c .verdict-row .ensures ∙ ap contractedRow (sym (c .before .before .answer .given .1))
 
 returns-2 : tie.Need-returns-2
 returns-2 c = c .refused-row .ensures ∙ ap contractedRow (sym (c .before .before .answer2 .given .1))
@@ -37,9 +31,8 @@ contracted-row-spec =
     tie.close
     (tie.spec
     enum-known-answer
+    cast-verdict-row
     verdict-row-requires
-    cast-row
-    array-write-row
     enum-known-answer-2
     refused-row-requires
     returns

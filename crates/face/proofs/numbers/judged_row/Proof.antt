@@ -8,6 +8,12 @@ use Rattle.face.proofs.numbers.judged_row.Tie as tie
 enum-known-answer : tie.Need-enum-known-answer
 enum-known-answer c = search needs
 
+cast-verdict-row : tie.Need-cast-verdict-row
+cast-verdict-row c = search needs
+
+cast-verdict-row-2 : tie.Need-cast-verdict-row-2
+cast-verdict-row-2 c = search needs
+
 verdict-row-requires : tie.Need-verdict-row-requires
 verdict-row-requires c κs = search needs
 
@@ -28,6 +34,8 @@ judged-row-spec =
     tie.close
     (tie.spec
     enum-known-answer
+    cast-verdict-row
+    cast-verdict-row-2
     verdict-row-requires
     enum-known-answer-2
     refused-row-requires

@@ -15,16 +15,16 @@ use Rattle.face.proofs.numbers.store.Statement.{statement}
 use Rattle.face.proofs.numbers.store.Tie as tie
 
 abbrev Inv-loop : tie.InvT-loop
-Inv-loop out₀ told i₀ out i = (i ≤ 8) × (length told ≡ 8) × (length out ≡ length out₀) × (out ≡ paste out₀ 0 told i)
+Inv-loop out₀ told i₀ out i = (i ≤ 9) × (length told ≡ 9) × (length out ≡ length out₀) × (out ≡ paste out₀ 0 told i)
 
 abbrev μ-loop : tie.MeasureT-loop
-μ-loop out₀ told i₀ out i = 8 - i
+μ-loop out₀ told i₀ out i = 9 - i
 
 returns : tie.Need-returns Inv-loop μ-loop
 returns c =
     let out = now (c .before .args .out) in
-    let short = lt-leb 8 (length out) (c .if1 .taken) in
-    (sym short, sym (ap (λ (t : Bool). cond t (c .before .args .t2 ++ drop 8 out) out) short))
+    let short = lt-leb 9 (length out) (c .if1 .taken) in
+    (sym short, sym (ap (λ (t : Bool). cond t (c .before .args .t2 ++ drop 9 out) out) short))
 
 loop-holds : tie.Need-loop-holds Inv-loop μ-loop
 loop-holds c = (zero-le, search needs, refl, paste-zero (now (c .before .args .out)) 0 (c .before .args .t2))
@@ -67,10 +67,10 @@ returns-2 c =
     let a = c .before .before .before .args in
     let l = c .before .loop in
     let out = now (a .out) in
-    let roomy = le-leb 8 (length out) (c .before .before .if1 .left) in (
+    let roomy = le-leb 9 (length out) (c .before .before .if1 .left) in (
       sym roomy,
       rw (le-antisymm (l .inv .0) (c .loop-test .left)) at (l .inv .3)
-          ∙ ap (λ (x : List ℕ). x ++ drop 8 out) (take-all 8 (a .t2) (omega (arith, l .inv .1))) ∙ sym (ap (λ (t : Bool). cond t (a .t2 ++ drop 8 out) out) roomy),
+          ∙ ap (λ (x : List ℕ). x ++ drop 9 out) (take-all 9 (a .t2) (omega (arith, l .inv .1))) ∙ sym (ap (λ (t : Bool). cond t (a .t2 ++ drop 9 out) out) roomy),
     )
 
 pub store-spec : {M : Type 1} → statement M

@@ -91,9 +91,8 @@ impl Chosen<'_> {
             .fold(0, |side, &s| side | 1 << s)
     }
 
-    /// The verdict as eight numbers.
-    fn verdict(&self, stations: &[u8], all: u64) -> [u64; 8] {
-        let loads = self.loads();
+    /// The verdict as nine numbers, without the score.
+    fn verdict(&self, loads: &[u16; 128], stations: &[u8], all: u64) -> [u64; 9] {
         for (x, span) in self.book.spans.iter().enumerate() {
             if loads[x] > u16::from(span.limit) {
                 return [
@@ -105,20 +104,21 @@ impl Chosen<'_> {
                     u64::from(span.limit),
                     0,
                     0,
+                    0,
                 ];
             }
         }
         let side = self.side(stations, 0);
         if side != all {
-            return [2, 0, 0, 0, 0, 0, side, 0];
+            return [2, 0, 0, 0, 0, 0, side, 0, 0];
         }
         for x in 0..self.book.spans.len() {
             let side = self.side(stations, 1 << x);
             if side != all {
-                return [3, 0, 0, x as u64, 0, 0, side, 0];
+                return [3, 0, 0, x as u64, 0, 0, side, 0, 0];
             }
         }
-        [4, 0, 0, 0, 0, 0, 0, 0]
+        [4, 0, 0, 0, 0, 0, 0, 0, 0]
     }
 
     /// F: the pairs of a span and a lightpath on it whose ends are not joined with the span out.
@@ -136,8 +136,7 @@ impl Chosen<'_> {
     }
 
     /// Fc: what the loads have above the limits.
-    fn excess(&self) -> u64 {
-        let loads = self.loads();
+    fn excess(&self, loads: &[u16; 128]) -> u64 {
         let spans = self.book.spans.iter().zip(loads);
         spans
             .map(|(span, load)| u64::from(load.saturating_sub(u16::from(span.limit))))
@@ -149,8 +148,8 @@ fn stations(book: &Book) -> Vec<u8> {
     book.station_numbers().iter().map(|&s| s as u8).collect()
 }
 
-/// The counts of a book and its stations, as eight numbers.
-pub fn read(bytes: &[u8]) -> [u64; 8] {
+/// The counts of a book and its stations, as nine numbers.
+pub fn read(bytes: &[u8]) -> [u64; 9] {
     let b = twin::read(bytes).expect("a good book");
     let n = |len: usize| len as u64;
     [
@@ -162,36 +161,36 @@ pub fn read(bytes: &[u8]) -> [u64; 8] {
         n(b.lightpaths.len()),
         n(b.alternatives.len()),
         b.station_set(),
+        0,
     ]
 }
 
-/// The verdict on a choice.
-pub fn judge(bytes: &[u8], number: u64) -> [u64; 8] {
-    let b = twin::read(bytes).expect("a good book");
-    choose(&b, &options(&b), number).verdict(&stations(&b), b.station_set())
-}
-
-/// The score of a choice.
-pub fn score(bytes: &[u8], number: u64) -> [u64; 8] {
+/// The verdict on a choice, and its score. The loads are counted once for both.
+pub fn judge(bytes: &[u8], number: u64) -> [u64; 9] {
     let b = twin::read(bytes).expect("a good book");
     let options = options(&b);
     let chosen = choose(&b, &options, number);
-    [1, 0, 0, chosen.apart(), chosen.excess(), 0, 0, 0]
+    let loads = chosen.loads();
+    let mut row = chosen.verdict(&loads, &stations(&b), b.station_set());
+    row[7] = chosen.apart();
+    row[8] = chosen.excess(&loads);
+    row
 }
 
 /// The first acceptable choice within the limit.
-pub fn search(bytes: &[u8], limit: u32) -> [u64; 8] {
+pub fn search(bytes: &[u8], limit: u32) -> [u64; 9] {
     let b = twin::read(bytes).expect("a good book");
     let (options, stations, all) = (options(&b), stations(&b), b.station_set());
     let total: u64 = options.iter().map(|list| list.len() as u64).product();
     for n in 0..total.min(u64::from(limit)) {
-        if choose(&b, &options, n).verdict(&stations, all)[0] == 4 {
-            return [1, 0, 0, n, 0, total, 0, 0];
+        let chosen = choose(&b, &options, n);
+        if chosen.verdict(&chosen.loads(), &stations, all)[0] == 4 {
+            return [1, 0, 0, n, 0, total, 0, 0, 0];
         }
     }
     if total <= u64::from(limit) {
-        [2, 0, 0, 0, 0, total, 0, 0]
+        [2, 0, 0, 0, 0, total, 0, 0, 0]
     } else {
-        [3, 0, 0, 0, u64::from(limit), total, 0, 0]
+        [3, 0, 0, 0, u64::from(limit), total, 0, 0, 0]
     }
 }

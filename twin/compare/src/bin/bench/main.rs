@@ -18,12 +18,12 @@ const TRIALS: u32 = 65_536;
 struct Row<'a> {
     name: &'a str,
     calls: u32,
-    ours: &'a dyn Fn() -> [u64; 8],
-    theirs: &'a dyn Fn() -> [u64; 8],
+    ours: &'a dyn Fn() -> [u64; 9],
+    theirs: &'a dyn Fn() -> [u64; 9],
 }
 
 /// The nanoseconds of one call.
-fn time(calls: u32, call: &dyn Fn() -> [u64; 8]) -> f64 {
+fn time(calls: u32, call: &dyn Fn() -> [u64; 9]) -> f64 {
     let start = Instant::now();
     for _ in 0..calls {
         black_box(call());
@@ -54,14 +54,14 @@ fn measure(row: &Row) {
     );
 }
 
-/// The eight numbers that a function of the library stores.
-fn stored(call: impl Fn(&mut [u64]) -> bool) -> [u64; 8] {
-    let mut out = [0; 8];
+/// The nine numbers that a function of the library stores.
+fn stored(call: impl Fn(&mut [u64]) -> bool) -> [u64; 9] {
+    let mut out = [0; 9];
     assert!(call(&mut out));
     out
 }
 
-/// Reading, a judgement and a score.
+/// Reading, and a judgement with its score.
 fn measure_calls(book: &[u8]) {
     measure(&Row {
         name: "reading",
@@ -70,16 +70,10 @@ fn measure_calls(book: &[u8]) {
         theirs: &|| baseline::read(black_box(book)),
     });
     measure(&Row {
-        name: "one judgement, the book read",
-        calls: 1000,
+        name: "one judgement with its score, the book read",
+        calls: 500,
         ours: &|| stored(|out| face::judge(black_box(book), 0, out)),
         theirs: &|| baseline::judge(black_box(book), 0),
-    });
-    measure(&Row {
-        name: "one score, the book read",
-        calls: 100,
-        ours: &|| stored(|out| face::score(black_box(book), 0, out)),
-        theirs: &|| baseline::score(black_box(book), 0),
     });
 }
 
