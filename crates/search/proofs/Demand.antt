@@ -15,6 +15,7 @@ use Rattle.book.proofs.Readers.{Bytes}
 use Rattle.book.proofs.Format.{reading-back, reading-only}
 use Rattle.book.proofs.Chosen.{choice-fits}
 use Rattle.book.proofs.Written.{such-a-choice, no-such-choice}
+use Rattle.book.proofs.ChoiceRead.{ChoiceIs, such, no-such, choice-is}
 use Rattle.judgement.specs.declared.Verdict.the-variants.{Okay}
 use Rattle.judgement.specs.declared.Judged.{Judged}
 use Rattle.judgement.specs.declared.Judged.the-variants as judged
@@ -56,6 +57,16 @@ accepted-judged c fits e =
     let v = okay-only (verdict c) e in
     let z = okay-scores c fits v in
     rw (v, z .0, z .1)
+
+-- OK never comes with another score: so whoever is not judged OK in the sense above is not judged OK at all
+pub okay-always : (s : List ℕ) → Bytes s → (n : ℕ) {f fc : ℕ} → judgedOf (chosenOf (reading s) n) ≡ judged.Told Okay f fc → JudgedOkay s n
+okay-always s h n {f} {fc} e = go (choice-is s n) e
+  where
+    go : {g : Reading} → ChoiceIs s n g → judgedOf g ≡ judged.Told Okay f fc → judgedOf g ≡ judged.Told Okay 0 0
+    go (such m q l) e =
+        let v : verdict (chosen m n) ≡ Okay = cc in
+        accepted-judged (chosen m n) (choice-fits m n (reading-only s m h q .1)) (ap isOkay v)
+    go (no-such x) e = let z : _≡_ {A = ℕ} 0 1 = cc in absurd (omega arith)
 
 -- what `judge` says of a choice of a good book
 module _ (s : List ℕ) (bytes : Bytes s) (m : RouteBook) (reads : reading s ≡ good m) where
