@@ -87,12 +87,11 @@ loop-less c = search needs
 
 loop-again : tie.Need-loop-again Inv-loop μ-loop
 loop-again c =
-    let l = c .before .before .before .before .before .before .before .before .before .loop in
-    (
+    let l = c .before .before .before .before .before .before .before .before .before .loop in (
       ⊎-elim
-      (λ w. subst (Lowest c) (sym (w .1 ∙ ap (At (c .before .before .before .before .before .before .before .before .before .before .args .base + i c)) (side-is c))) (back-hit _ _ _ (l .inv .0) (i c) (next c) (ap not (ne-eqb _ _ (λ e. w .0 .taken (side-is c ∙ e))))))
-      (λ w. subst (Lowest c) (sym (w .1)) (back-miss _ _ _ (l .inv .0) (i c) (next c) (ap not (eq-eqb _ _ (sym (side-is c) ∙ w .0 .left)))))
-      (c .before .if1 .came),
+          (λ w. subst (Lowest c) (sym (w .1 ∙ ap (At (c .before .before .before .before .before .before .before .before .before .before .args .base + i c)) (side-is c))) (back-hit _ _ _ (l .inv .0) (i c) (next c) (ap not (ne-eqb _ _ (λ e. w .0 .taken (side-is c ∙ e))))))
+          (λ w. subst (Lowest c) (sym (w .1)) (back-miss _ _ _ (l .inv .0) (i c) (next c) (ap not (eq-eqb _ _ (sym (side-is c) ∙ w .0 .left)))))
+          (c .before .if1 .came),
       counted c,
     )
 

@@ -37,8 +37,7 @@ returns c =
     let b = c .before .before .before .before .before .before .before .before .before .before .args .b in
     let few = c .before .before .before .before .before .before .before .before .before .low-spans .ensures in
     let low = c .before .before .before .before .before .before .before .walk .ensures in
-    let high = c .before .before .before .before .walk2 .ensures in
-    (
+    let high = c .before .before .before .before .walk2 .ensures in (
       c .before .before .cut-or2 .ensures ∙ ap (λ (v : Verdict). cutOr v (c .before .before .before .before .before .before .before .walk .result .parted)) (c .before .before .before .cut-or .ensures) ∙ cut-is b refl _ _ (rw few at (low .0)) (rw few at (high .0)),
       (λ m is fits. score-is m is fits few refl (low .1) (high .1)),
     )
