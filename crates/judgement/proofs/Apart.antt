@@ -18,7 +18,7 @@ use Rattle.book.proofs.Writers.{noLightpath}
 use Rattle.judgement.specs.Network.{sideOf}
 use Rattle.judgement.specs.Judgement.{sum, one, rides, network, without, apart, scoreF}
 use Rattle.judgement.specs.Inside.{netOf, upOf, upTable, unset, partedBy, apartAt, apartOn, apartIn}
-use Rattle.judgement.proofs.Sums.{sum-next, sum-alike, sum-most, sum-split}
+use Rattle.judgement.proofs.Sums.{sum-alike, sum-most, sum-split}
 use Rattle.judgement.proofs.Tables.{table-at, table-side}
 use Rattle.judgement.proofs.Held.{route-rides, side-low, side-high}
 

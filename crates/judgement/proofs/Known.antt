@@ -1,7 +1,7 @@
 -- ONE SIDE TELLS OF ANOTHER: sides are the parts of the nodes that chains join, so the side of a node in a known side is that side, and a node outside
 -- it is joined to none in it. So where a known side holds all stations, and all ends are stations, no ends are apart.
 use Prim.Native.Nat.{ℕ, _<_}
-use mathlib.Core.Path.{_≡_, refl, sym, ap, _∙_, subst}
+use mathlib.Core.Path.{_≡_, refl, sym, _∙_}
 use mathlib.Core.List.{List}
 use mathlib.Core.Logic.{_↔_}
 use mathlib.Core.Bool.{Bool, true, false, not, _&&_, false≢true}

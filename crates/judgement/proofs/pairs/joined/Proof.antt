@@ -2,7 +2,6 @@
 -- Where it holds neither, the side of the first is grown.
 use borrow.Author.Needs.{needs}
 use mathlib.Core.Path.{sym, _∙_}
-use borrow.Author.Tests.{not-true}
 use Rattle.judgement.proofs.Known.{known-in, known-out}
 use Rattle.judgement.proofs.pairs.joined.Statement.{statement}
 use Rattle.judgement.proofs.pairs.joined.Tie as tie

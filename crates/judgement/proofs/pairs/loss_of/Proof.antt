@@ -1,8 +1,7 @@
 -- The rows lead as the lightpaths do that lack the span, so what grows by them is the side with the span out, and the lightpaths counted are its pairs.
 -- Where that side is the set of stations, which has all ends, there are none: `none-apart`.
 use borrow.Author.Needs.{needs}
-use Prim.Native.Nat.{ℕ}
-use mathlib.Core.Path.{_≡_, sym, ap, _∙_}
+use mathlib.Core.Path.{_≡_, sym, _∙_}
 use native.Mathlib.Omega.{arith}
 use lib.Count.{trailingZeros}
 use denote.Ref.{now}

@@ -1,7 +1,6 @@
 -- The side holds only what is joined to the start, and what its nodes lead to once they are taken; each turn takes a node that was not taken before.
 -- When all are taken it is the side of the start: `working-end`.
 use borrow.Author.Needs.{needs}
-use mathlib.Core.Path.{_≡_}
 use mathlib.Core.Bool.{Bool}
 use Prim.Native.Nat.{ℕ, _-_}
 use Rattle.book.proofs.Bits.{put-zero}

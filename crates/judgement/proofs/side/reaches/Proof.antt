@@ -1,7 +1,7 @@
 -- The side grows as in `grow`. What it holds so far is in the whole side, so that a node found in it is joined; and when all its nodes are taken it is
 -- the whole side, so that a node not found in it is not.
 use borrow.Author.Needs.{needs}
-use mathlib.Core.Path.{_≡_, sym}
+use mathlib.Core.Path.{sym}
 use mathlib.Core.Bool.{Bool}
 use Prim.Native.Nat.{ℕ, _-_}
 use Rattle.book.proofs.Bits.{put-zero}

@@ -1,7 +1,6 @@
 -- After k turns the rows lead along the first k lightpaths. Each turn notes one more: `leads-more`.
 use borrow.Author.Needs.{needs}
-use mathlib.Core.Path.{_≡_}
-use Prim.Native.Nat.{ℕ, _-_, _+_, _≤_, zero-le}
+use Prim.Native.Nat.{_-_, _≤_, zero-le}
 use native.Mathlib.Nat.{le-antisymm}
 use denote.Ref.{now}
 use Rattle.judgement.specs.Inside.{netOf, upOf, Leads}

@@ -10,7 +10,7 @@ use Rattle.book.specs.Format.{good}
 use Rattle.judgement.specs.declared.Verdict.{Verdict}
 use Rattle.judgement.specs.declared.Judged.the-variants.{Told}
 use Rattle.judgement.specs.Arrays.{splitOrIn}
-use Rattle.judgement.specs.Judgement.{verdict, scoreF, scoreFc}
+use Rattle.judgement.specs.Judgement.{verdict, scoreF}
 use Rattle.judgement.specs.Answers.{judgedOf}
 use Rattle.judgement.proofs.Usable.{held-usable}
 use Rattle.judgement.proofs.Found.{overOr, over-is}

@@ -1,7 +1,7 @@
 -- Coming down, the walk has at each span the lowest of those behind it that parts the stations, and the pairs of all of them. When it has come to the first
 -- span these are the lowest of all and the pairs of all.
 use borrow.Author.Needs.{needs}
-use mathlib.Core.Path.{_≡_, refl, sym, ap, _∙_, subst}
+use mathlib.Core.Path.{_≡_, sym, ap, _∙_, subst}
 use mathlib.Core.Bool.{not}
 use Prim.Native.Nat.{ℕ, _+_, _-_}
 use mathlib.Core.List.{List}

@@ -1,7 +1,7 @@
 -- The two walks, over the spans below 64 and over the others, are what the laws of the parts ask for: `cut-is` for the verdict and `score-is` for F.
 -- F is at most 1,536, so that the sum is not too large.
 use borrow.Author.Needs.{needs}
-use mathlib.Core.Path.{_≡_, refl, ap, _∙_}
+use mathlib.Core.Path.{refl, ap, _∙_}
 use native.Mathlib.Omega.{arith}
 use Rattle.judgement.specs.declared.Verdict.{Verdict}
 use Rattle.judgement.specs.Inside.{cutOr}
