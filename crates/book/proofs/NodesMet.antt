@@ -1,7 +1,7 @@
 -- THE NODES THAT A ROUTE MEETS: the walk of a route begins at one and ends at one, and a span of the route has both its ends among them.
 -- So whatever rides a span meets both ends of that span, and whatever ends at a node meets that node.
 use Prim.Native.Nat.{ℕ}
-use mathlib.Core.Path.{_≡_, refl, sym, ap, _∙_, subst}
+use mathlib.Core.Path.{_≡_, refl, sym, subst}
 use mathlib.Core.List.{List, [], _∷_}
 use mathlib.Core.Bool.{Bool, true, false, cond, _||_, false≢true}
 use lib.ListN.{length}
@@ -15,6 +15,15 @@ module _ (sps : List Span) where
   -- both ends of a span are met
   abbrev BothMet : ℕ → List ℕ → Type 0
   BothMet x met = (among (spanAt sps x .left) met ≡ true) × (among (spanAt sps x .right) met ≡ true)
+
+  -- step by step
+  pub met-none : (p : ℕ) → metOn sps p [] ≡ p ∷ []
+  unfolding metOn
+  met-none p = refl
+
+  pub met-next : (p x : ℕ) (xs : List ℕ) → metOn sps p (x ∷ xs) ≡ p ∷ metOn sps (far (spanAt sps x) p) xs
+  unfolding metOn
+  met-next p x xs = refl
 
   -- the node at the start
   pub met-start : (p : ℕ) (r : List ℕ) → among p (metOn sps p r) ≡ true
