@@ -14,7 +14,7 @@ use lib.Dec.{eqb}
 use lib.ListN.{length, getD, set, drop, replicate, length-set, length-replicate, List·getD-eq-default, drop-of-length-le}
 use lib.Seq.{getD-set-same, getD-set-other}
 use Rattle.book.specs.declared.Book.{Book}
-use Rattle.book.specs.Book.{Span, Lightpath, RouteBook, among, below, spanAt, lengthFits, metOn, wellFormed}
+use Rattle.book.specs.Book.{Span, Lightpath, RouteBook, among, below, spanAt, far, lengthFits, metOn, wellFormed}
 use Rattle.book.specs.Bits.{bit, has, put}
 use Rattle.book.specs.Choice.{lightpathAt}
 use Rattle.book.specs.Memory.{bookOf}
@@ -39,11 +39,11 @@ use Rattle.judgement.proofs.Sites.{left-is, left-lt}
 
 -- one step of the walk, and its end
 module _ (left right : List ℕ) (met p : ℕ) (r : List ℕ) (j : ℕ) where
-  pub walk-next : j < length r → metIn left right met p (drop j r) ≡ metIn left right (put met (otherEnd left right (getD r j 0) p)) (otherEnd left right (getD r j 0) p) (drop (j + 1) r)
+  pub walk-next : j < length r → metIn left right met p (drop j r) ≡ metIn left right (put met p) (otherEnd left right (getD r j 0) p) (drop (j + 1) r)
   unfolding metIn
   walk-next l = rw (route-cons r j l)
 
-  pub walk-done : length r ≤ j → metIn left right met p (drop j r) ≡ met
+  pub walk-done : length r ≤ j → metIn left right met p (drop j r) ≡ put met p
   unfolding metIn
   walk-done l = rw (drop-of-length-le r {i = j} l)
 
@@ -57,26 +57,26 @@ end-low {left} {right} low x p = go (eqb (getD left x 0) p)
 
 -- what the walk has put in is what the route meets
 module _ (sps : List Span) (left right : List ℕ) (is-left : (x : ℕ) → getD left x 0 ≡ spanAt sps x .left) (is-right : (x : ℕ) → getD right x 0 ≡ spanAt sps x .right) where
-  met-has : (r : List ℕ) (w p i : ℕ) → has (metIn left right (put w p) p r) i ≡ (has w i || among i (metOn sps p r))
+  met-has : (r : List ℕ) (w p i : ℕ) → has (metIn left right w p r) i ≡ (has w i || among i (metOn sps p r))
   unfolding metIn
-  met-has [] w p i = has-put w p i ∙ turned (eqb i p) (has w i) ∙ ap (λ (l : List ℕ). has w i || among i l) (sym (met-none sps p))
+  met-has [] w p i = has-put w p i ∙ last (eqb i p) (has w i) ∙ ap (λ (l : List ℕ). has w i || among i l) (sym (met-none sps p))
     where
-      turned : (a b : Bool) → (a || b) ≡ (b || (a || false))
-      turned true true = refl
-      turned true false = refl
-      turned false true = refl
-      turned false false = refl
+      last : (a b : Bool) → (a || b) ≡ (b || (a || false))
+      last true true = refl
+      last true false = refl
+      last false true = refl
+      last false false = refl
   met-has (x ∷ xs) w p i =
       rw (is-left x, is-right x)
-      (met-has xs (put w p) (cond (eqb (spanAt sps x .left) p) (spanAt sps x .right) (spanAt sps x .left)) i
-      ∙ ap (λ (t : Bool). t || among i (metOn sps (cond (eqb (spanAt sps x .left) p) (spanAt sps x .right) (spanAt sps x .left)) xs)) (has-put w p i)
-      ∙ turned (eqb i p) (has w i) (among i (metOn sps (cond (eqb (spanAt sps x .left) p) (spanAt sps x .right) (spanAt sps x .left)) xs))
+      (met-has xs (put w p) (far (spanAt sps x) p) i
+      ∙ ap (λ (t : Bool). t || among i (metOn sps (far (spanAt sps x) p) xs)) (has-put w p i)
+      ∙ next (eqb i p) (has w i) (among i (metOn sps (far (spanAt sps x) p) xs))
       ∙ ap (λ (l : List ℕ). has w i || among i l) (sym (met-next sps p x xs)))
     where
-      turned : (a b c : Bool) → ((a || b) || c) ≡ (b || (a || c))
-      turned true true c = refl
-      turned true false c = refl
-      turned false b c = refl
+      next : (a b c : Bool) → ((a || b) || c) ≡ (b || (a || c))
+      next true true c = refl
+      next true false c = refl
+      next false b c = refl
 
 module _ (m : RouteBook) (fits : wellFormed m ≡ true) where
   -- the ends of the spans are nodes

@@ -19,20 +19,20 @@ pub record EndsLow (left right : List ℕ) : Type 0 where
   pub left-low : (x : ℕ) → getD left x 0 < 64
   pub right-low : (x : ℕ) → getD right x 0 < 64
 
--- where span x leads from the node p, and a set with all nodes that a route meets after p
+-- where span x leads from the node p, and a set with all nodes that a route meets from p on
 abbrev pub otherEnd : List ℕ → List ℕ → ℕ → ℕ → ℕ
 otherEnd left right x p = cond (eqb (getD left x 0) p) (getD right x 0) (getD left x 0)
 
 unfoldable pub metIn : List ℕ → List ℕ → ℕ → ℕ → List ℕ → ℕ
-metIn left right met p [] = met
-metIn left right met p (x ∷ xs) = let q = otherEnd left right x p in metIn left right (put met q) q xs
+metIn left right met p [] = put met p
+metIn left right met p (x ∷ xs) = metIn left right (put met p) (otherEnd left right x p) xs
 
 -- the route of lightpath k stands at the start of row k; the nodes that it meets
 abbrev pub routeIn : Book → ℕ → List ℕ
 routeIn b k = take (getD (b .len) k 0) (drop (16 * k) (b .route))
 
 abbrev pub metOf : Book → ℕ → ℕ
-metOf b k = metIn (b .left) (b .right) (put 0 (getD (b .from) k 0)) (getD (b .from) k 0) (routeIn b k)
+metOf b k = metIn (b .left) (b .right) 0 (getD (b .from) k 0) (routeIn b k)
 
 -- word k has the nodes that lightpath k meets, for the first n lightpaths
 pub record MetBy (b : Book) (n : ℕ) (words : List ℕ) : Type 0 where

@@ -9,7 +9,6 @@ ghost use mathlib.Core.Bool.{true, cond};
 ghost use Prim.Native.Nat.{_<_};
 ghost use lib.Dec.{eqb};
 ghost use Rattle.book.specs.Book.{RouteBook, below, wellFormed};
-ghost use Rattle.book.specs.Bits.{put};
 ghost use Rattle.book.specs.Memory.{bookOf};
 ghost use Rattle.book.specs.Format.{good};
 ghost use Rattle.judgement.specs.Holding.{Held};
@@ -26,20 +25,18 @@ fn other_end(left: u8, right: u8, p: u8) -> u8
 // The nodes that a route meets from a node on: that node, and where each span leads.
 fn met_on<'a>(from: u8, route: &[u8], left: &'a [u8; 128], right: &'a [u8; 128]) -> Side
     requires { ⌜ (from < 64) × (below 128 (now route) ≡ true) × EndsLow (now left) (now right) ⌝ }
-    ensures { λ r. ⌜ r .mask ≡ metIn (now (left .entry)) (now (right .entry)) (put 0 from) from (now (route .entry)) ⌝ }
+    ensures { λ r. ⌜ r .mask ≡ metIn (now (left .entry)) (now (right .entry)) 0 from (now (route .entry)) ⌝ }
 {
-    let none = Side { mask: 0 };
-    let first = none.with(from);
-    let mut met = first;
+    let mut met = Side { mask: 0 };
     let mut p = from;
     let mut j = 0;
     while j < route.len() {
+        met = met.with(p);
         let x = route[j] as usize;
         p = other_end(left[x], right[x], p);
-        met = met.with(p);
         j += 1;
     }
-    met
+    met.with(p)
 }
 
 // The nodes that the lightpaths meet, a word for each.
