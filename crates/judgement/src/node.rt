@@ -64,11 +64,10 @@ fn stations_left(all: Side, v: u8) -> Side
     ensures { λ r. ⌜ r .mask ≡ leftIn (all .mask) v ⌝ }
 {
     let none = Side { mask: 0 };
-    if all.has(v) {
-        all.beyond(none.with(v))
-    } else {
-        all
+    if !all.has(v) {
+        return all;
     }
+    all.beyond(none.with(v))
 }
 
 // The side when node v is closed: it starts at the lowest station that is left, and is empty where none is.
