@@ -3,10 +3,12 @@
 use Prim.Native.Nat.{ℕ, _^_, _<_, _≤_}
 use mathlib.Core.Path.{_≡_, sym, _∙_}
 use mathlib.Core.List.{[]}
-use mathlib.Core.Bool.{true}
+use mathlib.Core.Bool.{true, _&&_}
 use native.Mathlib.Omega.{arith}
 use lib.ListN.{length}
-use Rattle.book.specs.Book.{RouteBook, lightpathEnds, lightpathFits, wellFormed}
+use lib.Dec.{eqb, ltb}
+use borrow.Author.Tests.{eqb-false, ltb-true, not-true}
+use Rattle.book.specs.Book.{RouteBook, spanAt, spanEnds, spanFits, lightpathEnds, lightpathFits, wellFormed}
 use Rattle.book.specs.Bits.{has, stationSet}
 use Rattle.book.specs.Choice.{lightpathAt}
 use Rattle.book.proofs.Tests.{and-inv}
@@ -28,6 +30,19 @@ module _ (m : RouteBook) (good : wellFormed m ≡ true) where
 
   pub a-station : (i : ℕ) × (has (stationSet (m .nodes)) i ≡ true)
   a-station = let z = found (m .nodes) (parts m good .station) in (z .0, station-has (m .nodes) (z .0) ∙ z .1)
+
+  -- the spans
+  pub span-ends : (x : ℕ) → x < length (m .spans)
+      → (spanAt (m .spans) x .left < length (m .nodes)) × (spanAt (m .spans) x .right < length (m .nodes)) × (spanAt (m .spans) x .left ≡ spanAt (m .spans) x .right → ⊥)
+  unfolding spanEnds
+  span-ends x l =
+      let n = length (m .nodes) in
+      let a = spanAt (m .spans) x .left in
+      let b = spanAt (m .spans) x .right in
+      let fits = every-at (spanFits n) (spanAt [] 0) [] (m .spans) (parts m good .spans) x l in
+      let both = and-inv {a = ltb a n && ltb b n} (and-inv {a = spanEnds n a b} fits .0) in
+      let low = and-inv {a = ltb a n} (both .0) in
+      (ltb-true a n (low .0), ltb-true b n (low .1), eqb-false a b (not-true (eqb a b) (both .1)))
 
   -- the lightpaths
   module _ (k : ℕ) (l : k < length (m .lightpaths)) where

@@ -15,6 +15,7 @@ pub mod Numbers
 pub mod Walking
 pub mod Stations
 pub mod Once
+pub mod NodesMet
 pub mod Tallies
 pub mod Routes
 pub mod Padded

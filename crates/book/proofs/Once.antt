@@ -29,24 +29,24 @@ count-last x y [] = omega arith
 count-last x y (z ∷ r) = omega (arith, count-last x y r)
 
 -- what a list has, it has with one more; and the one more
-among-more : (x y : ℕ) (ys : List ℕ) → among x ys ≡ true → among x (y ∷ ys) ≡ true
+pub among-more : (x y : ℕ) (ys : List ℕ) → among x ys ≡ true → among x (y ∷ ys) ≡ true
 among-more x y ys h = go (eqb x y)
   where
     go : (t : Bool) → (t || among x ys) ≡ true
     go true = refl
     go false = h
 
-among-first : (x y : ℕ) (ys : List ℕ) → x ≡ y → among x (y ∷ ys) ≡ true
+pub among-first : (x y : ℕ) (ys : List ℕ) → x ≡ y → among x (y ∷ ys) ≡ true
 among-first x y ys e = rw (eq-eqb x y e)
 
 module _ (sps : List Span) where
   -- one step of a walk: the span has p at one end, leads to a node not met yet, and the walk goes on there
-  record Step (met : List ℕ) (p x : ℕ) (xs : List ℕ) (t : ℕ) : Type 0 where
-    ends : touches (spanAt sps x) p ≡ true
-    new : not (among (far (spanAt sps x) p) met) ≡ true
-    on : walks sps (far (spanAt sps x) p ∷ met) (far (spanAt sps x) p) xs t ≡ true
+  pub record Step (met : List ℕ) (p x : ℕ) (xs : List ℕ) (t : ℕ) : Type 0 where
+    pub ends : touches (spanAt sps x) p ≡ true
+    pub new : not (among (far (spanAt sps x) p) met) ≡ true
+    pub on : walks sps (far (spanAt sps x) p ∷ met) (far (spanAt sps x) p) xs t ≡ true
 
-  step : (met : List ℕ) (p x : ℕ) (xs : List ℕ) (t : ℕ) → walks sps met p (x ∷ xs) t ≡ true → Step met p x xs t
+  pub step : (met : List ℕ) (p x : ℕ) (xs : List ℕ) (t : ℕ) → walks sps met p (x ∷ xs) t ≡ true → Step met p x xs t
   unfolding walks
   step met p x xs t w =
       let a = and-inv {a = touches (spanAt sps x) p && not (among (far (spanAt sps x) p) met)} w in

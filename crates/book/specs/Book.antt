@@ -122,6 +122,11 @@ walks sps met p (x ∷ xs) t =
     let q = far (spanAt sps x) p in
     let r = walks sps (q ∷ met) q xs t in touches (spanAt sps x) p && not (among q met) && r
 
+-- B67: the nodes that spans in order meet from the present node p on, by the same steps: p, and where each span leads
+unfoldable pub metOn : List Span → ℕ → List ℕ → List ℕ
+metOn sps p [] = p ∷ []
+metOn sps p (x ∷ xs) = p ∷ metOn sps (far (spanAt sps x) p) xs
+
 -- B15: the route rule: length, span numbers, and the walk from "from", which is met at the start, to "to"
 abbrev pub routeWalks : List Span → Ends → List ℕ → Bool
 routeWalks sps e r = walks sps (e .from ∷ []) (e .from) r (e .to)

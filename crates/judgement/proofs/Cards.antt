@@ -7,7 +7,7 @@ use mathlib.Core.Bool.{true, false}
 use lib.ListN.{set}
 use lib.Count.{trailingZeros}
 use Rattle.book.specs.Reader.{each, opened}
-use Rattle.book.specs.Book.{below, some, count, different, walks, lengthFits, spanEnds, lightpathEnds, follows}
+use Rattle.book.specs.Book.{below, some, count, different, walks, metOn, lengthFits, spanEnds, lightpathEnds, follows}
 use Rattle.book.specs.Bits.{bit, has, put, stationsInto}
 use Rattle.book.specs.Format.{Reading, good, refused, book, reading}
 use Rattle.book.specs.Memory.{padded}
@@ -18,9 +18,12 @@ use Rattle.judgement.specs.Network.{brought, grown, swept, settled, side
 use Rattle.judgement.specs.Judgement.{sum, load, firstOf}
 use Rattle.judgement.specs.Withdrawn.{noneOf}
 use Rattle.judgement.specs.Answers.{judgedOf, judgedNumbers, askedOf, askedSetOf}
+use Rattle.judgement.specs.Sites.{closedOf}
 use Rattle.judgement.specs.declared.Verdict.the-variants.{Over, Split, Cut, Okay}
 use Rattle.judgement.specs.declared.Judged.the-variants as judged
 use Rattle.judgement.specs.declared.Asked.the-variants as asked
+use Rattle.judgement.specs.declared.Site.the-variants as site
+use Rattle.judgement.specs.declared.Closed.the-variants as closed
 
 -- the loads of the five spans of a book
 abbrev loadsOf : Reading → List ℕ
@@ -83,3 +86,35 @@ pub sets : (askedSetOf (chosenOf (reading E) 1) 0 0 ≡ asked.Told 15 true) × (
     × (askedSetOf (chosenOf (reading E) 1) 0 1 ≡ asked.Refused 13 0) × (askedSetOf (chosenOf (reading E) 2) 0 1 ≡ asked.Refused 12 0)
 unfolding reading book each opened below some count different walks lengthFits spanEnds lightpathEnds follows bit has put stationsInto padded movableFrom product digits digitFor alternativesOf rerouted brought grown swept settled sideOf sum firstOf trailingZeros noneOf
 sets = (refl, refl, refl, refl, refl, refl)
+
+-- a site down: both choices of E, and no such choice; three stations that nothing joins; two of them, where one is left, and one, where none is
+pub sites : (closedOf (chosenOf (reading E) 0) ≡ closed.Told (site.Down 2 3)) × (closedOf (chosenOf (reading E) 1) ≡ closed.Told site.Okay)
+    × (closedOf (chosenOf (reading E) 2) ≡ closed.Refused 12 0) × (closedOf (chosenOf (reading (alone 3)) 0) ≡ closed.Told (site.Down 0 2))
+    × (closedOf (chosenOf (reading (alone 2)) 0) ≡ closed.Told site.Okay) × (closedOf (chosenOf (reading (alone 1)) 0) ≡ closed.Told site.Okay)
+unfolding reading book each opened below some count different walks lengthFits spanEnds lightpathEnds follows bit has put stationsInto padded movableFrom product digits digitFor alternativesOf rerouted brought grown swept settled sideOf sum firstOf trailingZeros metOn
+sites = (refl, refl, refl, refl, refl, refl)
+
+-- stations 0 and 1 with a pass-through node 2 between them, and one lightpath over both spans: closing node 2 takes it out
+abbrev between : List ℕ
+between =
+    0x48 ∷ 0x44 ∷ 3 ∷ 2 ∷ 1 ∷ 0 ∷ stationsOf 2 ++ (0x4e ∷ 0x44 ∷ 0 ∷ 0x53 ∷ 0x50 ∷ 0 ∷ 2 ∷ 1 ∷ 0x53 ∷ 0x50 ∷ 2 ∷ 1 ∷ 1 ∷ 0x4c ∷ 0x50 ∷ 0 ∷ 1 ∷ 2 ∷ 0 ∷ 1 ∷ 0x45 ∷ 0x4e ∷ [])
+
+pub passed-through : closedOf (chosenOf (reading between) 0) ≡ closed.Told (site.Down 2 1)
+unfolding reading book each opened below some count different walks lengthFits spanEnds lightpathEnds follows bit has put stationsInto padded movableFrom product digits digitFor alternativesOf rerouted brought grown swept settled sideOf sum firstOf trailingZeros metOn
+passed-through = refl
+
+-- with two stations every site may stand though a span's loss parts them
+pub two-stations : (judgedOf (chosenOf (reading (pair 0 0)) 0) ≡ judged.Told (Cut 0 1) 2 0) × (closedOf (chosenOf (reading (pair 0 0)) 0) ≡ closed.Told site.Okay)
+unfolding reading book each opened below some count different walks lengthFits spanEnds lightpathEnds follows bit has put stationsInto padded movableFrom product digits digitFor alternativesOf rerouted brought grown swept settled sideOf sum firstOf trailingZeros metOn
+two-stations = (refl, refl)
+
+-- station 0 with neighbours 1 and 2, and to each two spans with a lightpath on each: any span can be opened, and closing station 0 parts the neighbours
+abbrev hub : List ℕ
+hub =
+    0x48 ∷ 0x44 ∷ 3 ∷ 4 ∷ 4 ∷ 0 ∷ stationsOf 3
+    ++ (0x53 ∷ 0x50 ∷ 0 ∷ 1 ∷ 1 ∷ 0x53 ∷ 0x50 ∷ 0 ∷ 1 ∷ 1 ∷ 0x53 ∷ 0x50 ∷ 0 ∷ 2 ∷ 1 ∷ 0x53 ∷ 0x50 ∷ 0 ∷ 2 ∷ 1
+    ∷ 0x4c ∷ 0x50 ∷ 0 ∷ 1 ∷ 1 ∷ 0 ∷ 0x4c ∷ 0x50 ∷ 0 ∷ 1 ∷ 1 ∷ 1 ∷ 0x4c ∷ 0x50 ∷ 0 ∷ 2 ∷ 1 ∷ 2 ∷ 0x4c ∷ 0x50 ∷ 0 ∷ 2 ∷ 1 ∷ 3 ∷ 0x45 ∷ 0x4e ∷ [])
+
+pub hub-down : (judgedOf (chosenOf (reading hub) 0) ≡ judged.Told Okay 0 0) × (closedOf (chosenOf (reading hub) 0) ≡ closed.Told (site.Down 0 2))
+unfolding reading book each opened below some count different walks lengthFits spanEnds lightpathEnds follows bit has put stationsInto padded movableFrom product digits digitFor alternativesOf rerouted brought grown swept settled sideOf sum firstOf trailingZeros metOn
+hub-down = (refl, refl)

@@ -28,6 +28,10 @@ pub mod Demand
 pub mod Withdrawn
 pub mod Booked
 pub mod Answered
+pub mod Sites
+pub mod Standing
+pub mod MetWords
+pub mod Closes
 pub mod Labels
 pub mod Pieces
 pub mod Lowest

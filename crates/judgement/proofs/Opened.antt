@@ -59,15 +59,19 @@ module _ (s : List ℕ) (n : ℕ) (h : Bytes s) where
       go (no-such x) w = absurd (false≢true (sym (ap isGood (sym a ∙ ap (λ (x : Reply). x .answer) w))))
 
   -- a refusal has a number of its own, so number 0 means that the answer is told
+  pub told-good : (f : Reading → ℕ) → ((m : RouteBook) → f (good m) ≡ 0) → ((k p : ℕ) → f (refused k p) ≡ k)
+      → (f (chosenOf (reading s) n) ≡ 0) ↔ ((m : RouteBook) × (chosenOf (reading s) n ≡ good m))
+  told-good f told bad = (to (choice-is s n), (λ z. ap f (z .1) ∙ told (z .0)))
+    where
+      to : {g : Reading} → ChoiceIs s n g → f g ≡ 0 → (m : RouteBook) × (g ≡ good m)
+      to (such m q l) z = (chosen m n, refl)
+      to (no-such {k} {p} x) z = absurd (omega (arith, refused-above s n h x, z, bad k p))
+
   pub judged-told : (judgedNumbers (judgedOf (chosenOf (reading s) n)) .number ≡ 0) ↔ ((m : RouteBook) × (chosenOf (reading s) n ≡ good m))
-  judged-told = (to (choice-is s n), (λ z. ap (λ (g : Reading). judgedNumbers (judgedOf g) .number) (z .1) ∙ kinds (verdict (z .0)) (scoreF (z .0)) (scoreFc (z .0))))
+  judged-told = told-good (λ g. judgedNumbers (judgedOf g) .number) (λ m. kinds (verdict m) (scoreF m) (scoreFc m)) (λ k p. refl)
     where
       kinds : (v : Verdict) (f c : ℕ) → judgedNumbers (Told v f c) .number ≡ 0
       kinds (Over x l w) f c = refl
       kinds (Split d) f c = refl
       kinds (Cut x d) f c = refl
       kinds Okay f c = refl
-
-      to : {g : Reading} → ChoiceIs s n g → judgedNumbers (judgedOf g) .number ≡ 0 → (m : RouteBook) × (g ≡ good m)
-      to (such m q l) z = (chosen m n, refl)
-      to (no-such x) z = absurd (omega (arith, refused-above s n h x, z))

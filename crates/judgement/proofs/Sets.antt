@@ -57,6 +57,13 @@ low-lt k x i l e = go (decLt (trailingZeros k x) k)
     go (yes y) = y
     go (no n) = absurd (omega (arith, low-below k x i (omega arith)))
 
+-- and so has a set that is not empty
+pub low-some : (W x : ℕ) → x < 2 ^ W → (x ≡ 0 → ⊥) → trailingZeros W x < W
+low-some W x l n = elim (decLt (trailingZeros W x) W) [
+  | yes y ↦ y
+  | no k ↦ absurd (n (bit-ext W x 0 l (pow-pos W) (λ i q. low-below W x i (omega (arith, q, k)) ∙ sym (bit-of-zero i))))
+]
+
 -- what a set has beyond a part of it, by the machine's xor: there is something unless they are one, and the lowest of it is in the set and not in the part
 bit-xor : (a b i : ℕ) → bit (bitXor a b) i ≡ differ (bit a i) (bit b i)
 unfolding bit
@@ -165,6 +172,32 @@ has-or a b i = go (ℕ-discrete (bit a i) 1) (ℕ-discrete (bit b i) 1)
         let x : bit a i ≡ 0 = omega (arith, p, bit-lt a i) in
         let y : bit b i ≡ 0 = omega (arith, q, bit-lt b i) in
         has-false (bitOr a b) i (bit-or a b i ∙ omega (arith, x, y)) ∙ rw (has-false a i x, has-false b i y)
+
+-- a set with a number put in, and without one that it has, by the machine's xor
+pub has-put : (x j i : ℕ) → has (put x j) i ≡ (eqb i j || has x i)
+has-put x j i = go (ℕ-discrete i j) (ℕ-discrete (bit x i) 1)
+  where
+    go : Dec (i ≡ j) → Dec (bit x i ≡ 1) → has (put x j) i ≡ (eqb i j || has x i)
+    go (yes e) _ = has-true (put x j) i (ap (bit (put x j)) e ∙ put-same x j) ∙ rw (eq-eqb i j e)
+    go (no n) (yes h) = has-true (put x j) i (put-other x j i n ∙ h) ∙ rw (ne-eqb i j n, has-true x i h)
+    go (no n) (no h) =
+        let z : bit x i ≡ 0 = omega (arith, h, bit-lt x i) in
+        has-false (put x j) i (put-other x j i n ∙ z) ∙ rw (ne-eqb i j n, has-false x i z)
+
+pub taken-out : (x j i : ℕ) → bit x j ≡ 1 → (bit (bitXor x (put 0 j)) i ≡ 1) ↔ ((bit x i ≡ 1) × (i ≡ j → ⊥))
+taken-out x j i e = go (ℕ-discrete i j)
+  where
+    alone : (d : ℕ) → differ d 0 ≡ d
+    alone zero = refl
+    alone (suc d) = refl
+
+    go : Dec (i ≡ j) → (bit (bitXor x (put 0 j)) i ≡ 1) ↔ ((bit x i ≡ 1) × (i ≡ j → ⊥))
+    go (yes q) =
+        let z : bit (bitXor x (put 0 j)) i ≡ 0 = ap (bit (bitXor x (put 0 j))) q ∙ bit-xor x (put 0 j) j ∙ ap₂ differ e (put-same 0 j) in
+        ((λ h. absurd (omega (arith, h, z))), (λ p. absurd (p .1 q)))
+    go (no n) =
+        let z : bit (bitXor x (put 0 j)) i ≡ bit x i = bit-xor x (put 0 j) i ∙ ap (differ (bit x i)) (put-other 0 j i n ∙ bit-of-zero i) ∙ alone (bit x i) in
+        ((λ h. (sym z ∙ h, n)), (λ p. z ∙ p .0))
 
 -- what is in both of two sets: their and is 0 exactly if they share no number, and an or is 0 exactly if both sets are
 pub none-shared : (a b : ℕ) → bitAnd a b ≡ 0 → (i : ℕ) → bit a i ≡ 1 → bit b i ≡ 0

@@ -2,7 +2,7 @@
 -- The sides, the pieces and the ways are all computed by such tests.
 use mathlib.Core.Path.{_≡_, refl, sym, ap}
 use mathlib.Core.Logic.{_⊎_, inl, inr}
-use mathlib.Core.Bool.{Bool, true, false, _||_}
+use mathlib.Core.Bool.{Bool, true, false, _||_, false≢true}
 
 pub or-l : {a : Bool} (b : Bool) → a ≡ true → (a || b) ≡ true
 or-l b e = ap (λ (q : Bool). q || b) e
@@ -19,3 +19,12 @@ pub bool-iff : (a b : Bool) → (a ≡ true → b ≡ true) → (b ≡ true → 
 bool-iff true b f g = sym (f refl)
 bool-iff false true f g = g refl
 bool-iff false false f g = refl
+
+-- a test that tells whether P holds: it fails where P does not, and holds where P is not refuted
+pub not-when : {P : Type 0} (t : Bool) → (t ≡ true → P) → (P → ⊥) → t ≡ false
+not-when true f n = absurd (n (f refl))
+not-when false f n = refl
+
+pub when-not-not : {P : Type 0} (t : Bool) → (P → t ≡ true) → ((P → ⊥) → ⊥) → t ≡ true
+when-not-not true g n = refl
+when-not-not false g n = absurd (n (λ p. false≢true (g p)))

@@ -14,6 +14,7 @@ use Rattle.judgement.specs.declared.Verdict.the-variants.{Over, Split, C
 use Rattle.judgement.specs.Judgement.{load, limit, without, allUp, side, whole, cutOrOkay, splitOr, verdict, isOkay, acceptable}
 use Rattle.judgement.specs.Cuts.{AllJoined, Survives, CutForm}
 use Rattle.judgement.specs.Meaning.{Least, IsOver, NoneOver, IsCut, Given, over, split, cut, okay}
+use Rattle.judgement.proofs.Tests.{not-when, when-not-not}
 use Rattle.judgement.proofs.First.{First, there, nowhere, first, first-only}
 use Rattle.judgement.proofs.Whole.{whole-joined}
 use Rattle.judgement.proofs.Cuts.{same-forms}
@@ -64,18 +65,10 @@ module _ (m : RouteBook) (good : wellFormed m ≡ true) where
   not-joined {up} e all = false≢true (sym e ∙ whole-joined m good up .1 all)
 
   not-whole : {up : ℕ → Bool} → (AllJoined m up → ⊥) → whole m up ≡ false
-  not-whole {up} ne = go (whole m up) refl
-    where
-      go : (t : Bool) → whole m up ≡ t → t ≡ false
-      go true e = absurd (ne (joined e))
-      go false e = refl
+  not-whole {up} = not-when (whole m up) joined
 
   not-not-whole : {up : ℕ → Bool} → ((AllJoined m up → ⊥) → ⊥) → whole m up ≡ true
-  not-not-whole {up} nn = go (whole m up) refl
-    where
-      go : (t : Bool) → whole m up ≡ t → t ≡ true
-      go true e = refl
-      go false e = absurd (nn (not-joined e))
+  not-not-whole {up} = when-not-not (whole m up) (whole-joined m good up .1)
 
   judged-cut : NoneOver m → AllJoined m allUp → Given m (cutOrOkay m)
   judged-cut none all = go (first (cutTest m) (cutAt m) Okay (length (m .spans)) 0)

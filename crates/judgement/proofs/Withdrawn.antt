@@ -48,7 +48,7 @@ module _ {net net′ : Network} {up up′ : ℕ → Bool} (w : NoLess net up net
   side-stays W ends ends′ s i l h = has-true _ i (side-joined net′ up′ W ends′ s l i .1 (joined-stays (side-joined net up W ends s l i .0 (true-has _ i h))))
 
 -- sets of spans
-not-less : (p b : Bool) → (p ≡ true → b ≡ true) → not b ≡ true → not p ≡ true
+pub not-less : (p b : Bool) → (p ≡ true → b ≡ true) → not b ≡ true → not p ≡ true
 not-less true b f e = absurd (false≢true (sym (ap not (f refl)) ∙ e))
 not-less false b f e = refl
 

@@ -3,6 +3,7 @@
 pub mod kind;
 mod load;
 mod merge;
+mod node;
 mod pairs;
 mod question;
 mod ring;
@@ -17,6 +18,7 @@ ghost use Rattle.book.specs.Format.{reading};
 ghost use Rattle.book.specs.Writing.{chosenOf};
 ghost use Rattle.judgement.specs.Answers.{judgedOf, askedOf, askedSetOf};
 ghost use Rattle.judgement.specs.Contraction.{contractedOf};
+ghost use Rattle.judgement.specs.Sites.{closedOf};
 
 // The first that holds: a span over its limit, with its load and limit; a network that is split, with the side; a span whose loss parts the stations, with
 // the side then; or none of these.
@@ -42,6 +44,18 @@ pub enum Asked {
 // The answer of `contract`: the verdict and how many merges were made, or a refusal's number and place.
 pub enum Contracted {
     Told(Verdict, u16),
+    Refused(u8, usize),
+}
+
+// The lowest node whose closing parts the stations that are left, with the side of the lowest of them then; or that there is none.
+pub enum Site {
+    Down(u8, u64),
+    Okay,
+}
+
+// The answer of `close`: what closing a node does, or a refusal's number and place.
+pub enum Closed {
+    Told(Site),
     Refused(u8, usize),
 }
 
@@ -94,5 +108,18 @@ pub fn contract(s: &[u8], n: u32) -> Contracted
     match answer {
         Answer::Good => merge::contracted_of(b),
         Answer::Refused(no, place) => Contracted::Refused(no, place),
+    }
+}
+
+// Judges choice n of a book with its nodes closed one at a time, each with every lightpath that meets it: who of the other stations is joined.
+pub fn close(s: &[u8], n: u32) -> Closed
+    ensures { λ r. ⌜ r ≡ closedOf (chosenOf (reading (now (s .entry))) n) ⌝ }
+{
+    let reply = choice::choose(s, n);
+    let answer = reply.answer;
+    let b = reply.book;
+    match answer {
+        Answer::Good => node::closed_of(b),
+        Answer::Refused(no, place) => Closed::Refused(no, place),
     }
 }
