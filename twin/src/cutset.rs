@@ -2,21 +2,29 @@
 
 use crate::judgement::{over, Verdict};
 use crate::numbering::Plan;
+use crate::sites::Site;
 
 /// The most stations for which all divisions are tried.
 pub const MOST_STATIONS: usize = 12;
 
-/// Every two-sided division, as the side that holds the lowest station; the other isn't empty.
-pub fn divisions(plan: &Plan) -> Vec<u64> {
-    let stations = plan.book.station_numbers();
+/// Some stations, rising, as a set.
+fn set(stations: &[usize]) -> u64 {
+    stations.iter().fold(0, |set, &station| set | 1 << station)
+}
+
+/// Every two-sided division of some stations, rising, as the side that holds the lowest of them;
+/// the other isn't empty.
+pub fn divisions(stations: &[usize]) -> Vec<u64> {
     assert!(stations.len() <= MOST_STATIONS, "too many divisions");
-    let mut sides = vec![1 << stations[0]];
-    for station in &stations[1..] {
+    let Some((lowest, others)) = stations.split_first() else {
+        return Vec::new();
+    };
+    let mut sides = vec![1 << lowest];
+    for station in others {
         let with: Vec<u64> = sides.iter().map(|side| side | 1 << station).collect();
         sides.extend(with);
     }
-    let all = plan.book.station_set();
-    sides.retain(|&side| side != all);
+    sides.retain(|&side| side != set(stations));
     sides
 }
 
@@ -34,7 +42,7 @@ pub fn crossing(plan: &Plan, side: u64) -> Vec<usize> {
 /// The divisions whose whole cut set `span` carries; with no span, those with an empty cut set.
 pub fn parting(plan: &Plan, span: Option<usize>) -> Vec<u64> {
     let carried = |number: usize| span.is_some_and(|span| plan.holds(number, span));
-    divisions(plan)
+    divisions(&plan.book.station_numbers())
         .into_iter()
         .filter(|&side| crossing(plan, side).into_iter().all(carried))
         .collect()
@@ -77,4 +85,41 @@ pub fn score(plan: &Plan) -> u32 {
         }
     }
     pairs
+}
+
+/// The stations other than a node, rising.
+fn others(plan: &Plan, node: usize) -> Vec<usize> {
+    let station = |&other: &usize| other != node && plan.book.stations[other];
+    (0..plan.book.stations.len()).filter(station).collect()
+}
+
+/// The divisions of the stations other than a node whose whole cut set goes down with it. A walk
+/// meets just the ends of its spans.
+pub fn closing(plan: &Plan, node: usize) -> Vec<u64> {
+    let touches = |&span: &u8| {
+        let ends = plan.book.spans[usize::from(span)].ends;
+        ends.contains(&(node as u8))
+    };
+    let gone = |number: usize| plan.routes[number].iter().any(touches);
+    divisions(&others(plan, node))
+        .into_iter()
+        .filter(|&side| crossing(plan, side).into_iter().all(gone))
+        .collect()
+}
+
+/// The side with a node down: what every division that it closes keeps with the lowest station.
+pub fn site_side(plan: &Plan, node: usize) -> u64 {
+    closing(plan, node)
+        .into_iter()
+        .fold(set(&others(plan, node)), |side, part| side & part)
+}
+
+/// The answer about the sites of a plan, by cut sets.
+pub fn site(plan: &Plan) -> Site {
+    (0..plan.book.stations.len())
+        .find(|&node| !closing(plan, node).is_empty())
+        .map_or(Site::Okay, |node| Site::Down {
+            node,
+            side: site_side(plan, node),
+        })
 }

@@ -1,4 +1,4 @@
-//! Route books: reader, judgement of a choice, score, search, writer and report.
+//! Route books: reader, judgement of a choice and of its sites, score, search, writer and report.
 
 #![warn(missing_docs)]
 
@@ -24,6 +24,8 @@ pub mod reading;
 pub mod reporting;
 /// The search over choices.
 pub mod searching;
+/// The judgement of sites: one node down.
+pub mod sites;
 /// The writer of the chosen book.
 pub mod writing;
 
@@ -33,4 +35,5 @@ pub use judgement::{ask, judge, score, Verdict};
 pub use reading::read;
 pub use reporting::report;
 pub use searching::{search, Answer};
+pub use sites::{site, Site};
 pub use writing::write;

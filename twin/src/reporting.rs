@@ -5,6 +5,7 @@ use crate::judgement::{plan_score, verdict, Verdict};
 use crate::numbering::{digits, movables, Plan};
 use crate::reading::read;
 use crate::searching::{search_book, Answer};
+use crate::sites::{plan_site, Site};
 
 /// How many bytes of its input the report program keeps; a longer book has its fault in them.
 pub const KEPT: usize = 4096;
@@ -18,6 +19,14 @@ pub fn verdict_line(verdict: Verdict) -> String {
         Verdict::Split { side } => format!("SPLIT {side:016x}"),
         Verdict::Cut { span, side } => format!("CUT {span} {side:016x}"),
         Verdict::Okay => "OK".to_string(),
+    }
+}
+
+/// The line about the sites of a choice.
+pub fn site_line(site: Site) -> String {
+    match site {
+        Site::Down { node, side } => format!("SITE {node} {side:016x}"),
+        Site::Okay => "SITE OK".to_string(),
     }
 }
 
@@ -60,6 +69,7 @@ fn lines(book: &Book) -> Vec<String> {
         ),
         verdict_line(verdict(&plan)),
         format!("SCORE {parting} {excess}"),
+        site_line(plan_site(&plan)),
         answer_line(answer),
     ];
     if let Answer::Found { choice, .. } = answer {

@@ -120,7 +120,8 @@ fn route_length_16_is_read_and_17_refused() {
 
 #[test]
 fn report_on_e() {
-    let listing = "BOOK 4 5 4 1\nCUT 2 0000000000000007\nSCORE 2 0\nFOUND 1 2\nMOVE 3 1\nEND\n";
+    let listing = "BOOK 4 5 4 1\nCUT 2 0000000000000007\nSCORE 2 0\n\
+        SITE 2 0000000000000003\nFOUND 1 2\nMOVE 3 1\nEND\n";
     assert_eq!(report(&e()), listing);
 }
 
@@ -129,14 +130,15 @@ fn report_on_other_books() {
     assert_eq!(report(&[]), "BAD 1 0\nEND\n");
     assert_eq!(report(&e_spliced(75..75, &[0; 9000])), "BAD 9 75\nEND\n");
     let two = encode(&book(2, &[], &[], &[]));
-    let split = "BOOK 2 0 0 0\nSPLIT 0000000000000001\nSCORE 0 0\nNONE 1\nEND\n";
+    let split = "BOOK 2 0 0 0\nSPLIT 0000000000000001\nSCORE 0 0\nSITE OK\nNONE 1\nEND\n";
     assert_eq!(report(&two), split);
-    let over = "BOOK 4 5 4 1\nOVER 2 2 1\nSCORE 2 1\nFOUND 1 2\nMOVE 3 1\nEND\n";
+    let over = "BOOK 4 5 4 1\nOVER 2 2 1\nSCORE 2 1\n\
+        SITE 2 0000000000000003\nFOUND 1 2\nMOVE 3 1\nEND\n";
     assert_eq!(report(&e_with(32, 1)), over);
     let alone = encode(&book(1, &[], &[], &[]));
     assert_eq!(
         report(&alone),
-        "BOOK 1 0 0 0\nOK\nSCORE 0 0\nFOUND 0 1\nEND\n"
+        "BOOK 1 0 0 0\nOK\nSCORE 0 0\nSITE OK\nFOUND 0 1\nEND\n"
     );
 }
 

@@ -66,7 +66,7 @@ fn refused_like_the_plain_judgement() {
         e_spliced(66..68, &[4, 2]),
         e(),
     ];
-    let refusals = [(1, 0), (1, 73), (9, 75), (7, 61), (12, 0)];
+    let refusals = [(1, 0), (1, 73), (9, 75), (7, 66), (12, 0)];
     for (bytes, (number, place)) in books.iter().zip(refusals) {
         assert_eq!(contract(bytes, 2), Err(refusal(number, place)));
         assert_eq!(judge(bytes, 2), Err(refusal(number, place)));

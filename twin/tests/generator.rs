@@ -4,10 +4,12 @@ use std::collections::{BTreeMap, BTreeSet};
 use twin::contraction::{contract_plan, Contracted};
 use twin::generate::{damaged, good, numbers, Random};
 use twin::hex::{from_hex, to_hex};
+use twin::joining;
 use twin::judgement::{verdict, Verdict};
 use twin::numbering::{total, Plan};
 use twin::searching::{search_book, Answer};
-use twin::{ask, read, write};
+use twin::sites::{meets, plan_site};
+use twin::{ask, read, write, Site};
 
 /// How many books are counted.
 const BOOKS: usize = 4000;
@@ -90,6 +92,60 @@ fn contractions_come_in_fair_numbers() {
     }
     println!("contractions {counts:?}");
     assert_eq!(counts.len(), 5);
+    assert!(*counts.values().min().unwrap() * 100 >= BOOKS * 3);
+}
+
+/// Whether some chosen route passes through a node that is no station.
+fn passes_through(plan: &Plan) -> bool {
+    let lightpaths = 0..plan.book.lightpaths.len();
+    let nodes = 0..plan.book.stations.len();
+    let mut passed = nodes.filter(|&node| !plan.book.stations[node]);
+    passed.any(|node| lightpaths.clone().any(|number| meets(plan, number, node)))
+}
+
+/// The names of what is worth seeing in the answer about sites.
+fn site_names(plan: &Plan) -> Vec<&'static str> {
+    let stations = plan.book.station_numbers();
+    let many = stations.len() >= 3;
+    let joined = joining::side(plan, None) == plan.book.station_set();
+    let acceptable = verdict(plan) == Verdict::Okay;
+    let told = match plan_site(plan) {
+        Site::Okay => vec![
+            (true, "OK"),
+            (many, "OK with three stations"),
+            (many && passes_through(plan), "OK with nodes passed through"),
+        ],
+        Site::Down { node, .. } => {
+            let station = plan.book.stations[node];
+            vec![
+                (station, "at a station"),
+                (node == stations[0], "at the lowest station"),
+                (station && node > stations[0], "at a later station"),
+                (!station, "at a node passed through"),
+                (!station && joined, "the same in a joined network"),
+                (!joined, "in a split network"),
+                (acceptable, "in an acceptable choice"),
+            ]
+        }
+    };
+    told.iter()
+        .filter(|(seen, _)| *seen)
+        .map(|(_, name)| *name)
+        .collect()
+}
+
+#[test]
+fn sites_come_in_fair_numbers() {
+    let mut random = Random::new(7);
+    let mut counts = Counts::new();
+    for _ in 0..BOOKS {
+        let book = good(random.bits());
+        for name in site_names(&Plan::new(&book, 0)) {
+            *counts.entry(name).or_default() += 1;
+        }
+    }
+    println!("sites {counts:?}");
+    assert_eq!(counts.len(), 10);
     assert!(*counts.values().min().unwrap() * 100 >= BOOKS * 3);
 }
 
