@@ -23,18 +23,19 @@ use Rattle.book.proofs.Written.{total-is, such-a-choice}
 use Rattle.book.proofs.ReadBack.{Denied, at-fault, no-choice, no-room, number-served, number-denied, room-enough}
 use Rattle.judgement.specs.Judgement.{verdict, scoreF, scoreFc}
 use Rattle.judgement.specs.Answers.{judgedOf, askedOf}
+use Rattle.judgement.specs.Sites.{siteOf, closedOf}
 use Rattle.judgement.specs.declared.Asked.{Asked}
 use Rattle.judgement.specs.declared.Asked.the-variants as asked
 use Rattle.search.specs.Search.{finding}
 use Rattle.search.specs.Answers.{searchedOf}
 use Rattle.listing.specs.Text.{textOf}
-use Rattle.listing.specs.Report.{wordBOOK, wordSCORE, bookLine, verdictLine, scoreLine, findingLine, movesOf, endLine}
+use Rattle.listing.specs.Report.{wordBOOK, wordSCORE, bookLine, verdictLine, scoreLine, siteLine, findingLine, movesOf, endLine}
 use Rattle.listing.specs.Commands.{wordCHOICE, wordCHOICES, wordJOINED, wordPARTED, wordWRITTEN, choiceLine, joinedLine, choicesLine, writtenLine}
 use Rattle.listing.specs.Commands.{judgeOf, openOf, searchOf, readOf, writeOf}
-use Rattle.listing.specs.Inside.{Holds, judgedLines, searchedLines, choiceLines}
+use Rattle.listing.specs.Inside.{Holds, judgedLines, closedLine, searchedLines, choiceLines}
 use Rattle.listing.specs.declared.text.Text.{Text}
 use Rattle.listing.proofs.Texts.{text-whole}
-use Rattle.listing.proofs.Reports.{behind-short, side-short, verdict-short, finding-short, moved-short, bad-short}
+use Rattle.listing.proofs.Reports.{behind-short, side-short, verdict-short, site-short, finding-short, moved-short, bad-short}
 
 -- the struct of a book tells how many choices it has
 pub total-of : {b : Book} (m : RouteBook) → Holds b m → {w : Movables} {t : ℕ} → w ≡ movablesIn b → t ≡ product (sizesIn w) → t ≡ choices m
@@ -43,8 +44,8 @@ total-of m h e p = p ∙ ap (λ (w : Movables). product (sizesIn w)) e ∙ total
 module _ (m : RouteBook) (s : List ℕ) (n : ℕ) where
   pub judge-good : chosenOf (reading s) n ≡ good m → choiceLines n m s ≡ judgeOf n (chosenOf (reading s) n)
   judge-good e =
-      ap (λ (g : Reading). choiceLine n (choices m) ++ (judgedLines (judgedOf g) ++ endLine)) e
-      ∙ ap (λ (x : List ℕ). choiceLine n (choices m) ++ x) (append-assoc (verdictLine (verdict m)) (scoreLine (scoreF m) (scoreFc m)) endLine)
+      ap (λ (g : Reading). choiceLine n (choices m) ++ (judgedLines (judgedOf g) ++ (closedLine (closedOf g) ++ endLine))) e
+      ∙ ap (λ (x : List ℕ). choiceLine n (choices m) ++ x) (append-assoc (verdictLine (verdict m)) (scoreLine (scoreF m) (scoreFc m)) (siteLine (siteOf m) ++ endLine))
       ∙ sym (ap (λ (g : Reading). judgeOf n g) e)
 
   pub search-good : reading s ≡ good m → searchedLines m (searchedOf (reading s) n) ++ endLine ≡ searchOf n (reading s)
@@ -81,15 +82,18 @@ module _ (s : List ℕ) (n : ℕ) (out : List ℕ) (r : Written) (x : List ℕ) 
 -- EACH TEXT IS SHORT: no longer than a FOUND with eight moves
 pub judge-short : (n : ℕ) (g : Reading) → length (judgeOf n g) ≤ 428
 judge-short n (good c) =
-    let scored = scoreLine (scoreF c) (scoreFc c) ++ endLine in
+    let closed = siteLine (siteOf c) ++ endLine in
+    let scored = scoreLine (scoreF c) (scoreFc c) ++ closed in
     omega (
       arith,
       behind-short wordCHOICE (n ∷ choices c ∷ []) (10 ∷ []),
       verdict-short (verdict c),
       behind-short wordSCORE (scoreF c ∷ scoreFc c ∷ []) (10 ∷ []),
+      site-short (siteOf c),
       length-append (choiceLine n (choices c)) (verdictLine (verdict c) ++ scored),
       length-append (verdictLine (verdict c)) scored,
-      length-append (scoreLine (scoreF c) (scoreFc c)) endLine,
+      length-append (scoreLine (scoreF c) (scoreFc c)) closed,
+      length-append (siteLine (siteOf c)) endLine,
     )
 judge-short n (refused k p) = omega (arith, bad-short k p)
 

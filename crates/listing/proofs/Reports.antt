@@ -19,16 +19,19 @@ use Rattle.book.proofs.Choices.{choices-some}
 use Rattle.book.proofs.Written.{reply-refused}
 use Rattle.judgement.specs.Judgement.{verdict, scoreF, scoreFc}
 use Rattle.judgement.specs.Answers.{judgedOf}
+use Rattle.judgement.specs.Sites.{siteOf, closedOf}
 use Rattle.judgement.specs.declared.Verdict.{Verdict}
 use Rattle.judgement.specs.declared.Verdict.the-variants.{Over, Split, Cut, Okay}
+use Rattle.judgement.specs.declared.Site.{Site}
+use Rattle.judgement.specs.declared.Site.the-variants as site
 use Rattle.search.specs.Search.{finding}
 use Rattle.search.specs.Answers.{searchedOf}
 use Rattle.search.specs.declared.Finding.{Finding}
 use Rattle.search.specs.declared.Finding.the-variants.{Found, None, More}
 use Rattle.listing.specs.Text.{decimal, hex, textOf}
-use Rattle.listing.specs.Report.{wordBOOK, wordOVER, wordSPLIT, wordCUT, wordSCORE, wordFOUND, wordNONE, wordMORE, wordMOVE, wordBAD, numbers, line, sideLine}
-use Rattle.listing.specs.Report.{bookLine, verdictLine, scoreLine, findingLine, moveLine, moveLines, movesOf, endLine, badLine, badText, reportLimit, reportOf}
-use Rattle.listing.specs.Inside.{judgedLines, searchedLines, goodLines}
+use Rattle.listing.specs.Report.{wordBOOK, wordOVER, wordSPLIT, wordCUT, wordSCORE, wordSITE, wordFOUND, wordNONE, wordMORE, wordMOVE, wordBAD, numbers, line, sideLine}
+use Rattle.listing.specs.Report.{bookLine, verdictLine, scoreLine, siteLine, findingLine, moveLine, moveLines, movesOf, endLine, badLine, badText, reportLimit, reportOf}
+use Rattle.listing.specs.Inside.{judgedLines, closedLine, searchedLines, goodLines}
 use Rattle.listing.specs.declared.text.Text.{Text}
 use Rattle.listing.proofs.Texts.{text-whole}
 use Rattle.listing.proofs.Spelling.{spelled-long, decimal-short}
@@ -44,16 +47,17 @@ module _ (m : RouteBook) (fits : wellFormed m ≡ true) where
 
   -- the lines by what reading and choosing give
   abbrev by : Reading → Reading → List ℕ
-  by g c = bookLine m ++ (judgedLines (judgedOf c) ++ (searchedLines m (searchedOf g reportLimit) ++ endLine))
+  by g c = bookLine m ++ (judgedLines (judgedOf c) ++ (closedLine (closedOf c) ++ (searchedLines m (searchedOf g reportLimit) ++ endLine)))
 
   pub report-good : (s : List ℕ) → reading s ≡ good m → goodLines m s ≡ reportOf (good m)
   report-good s e =
       let c = chosen m 0 in
+      let rest = siteLine (siteOf c) ++ (searchedLines m (searchedOf (good m) reportLimit) ++ endLine) in
       ap (λ (g : Reading). by g (chosenOf g 0)) e
       ∙ ap (by (good m)) first-choice
-      ∙ ap (λ (x : List ℕ). bookLine m ++ x) (append-assoc (verdictLine (verdict c)) (scoreLine (scoreF c) (scoreFc c)) (searchedLines m (searchedOf (good m) reportLimit) ++ endLine))
+      ∙ ap (λ (x : List ℕ). bookLine m ++ x) (append-assoc (verdictLine (verdict c)) (scoreLine (scoreF c) (scoreFc c)) rest)
 
--- THE REPORT IS SHORT: a number takes at most 20 digits, so that no line is longer than 89 bytes and the report never longer than 633
+-- THE REPORT IS SHORT: a number takes at most 20 digits, so that no line is longer than 89 bytes and the report never longer than 676
 module _ (w : List ℕ) where
   pub behind-short : (ns rest : List ℕ) → length (w ++ numbers ns rest) ≤ length w + 21 * length ns + length rest
   behind-short ns rest = omega (arith, length-append w (numbers ns rest), go ns)
@@ -70,6 +74,10 @@ verdict-short (Over x l k) = omega (arith, behind-short wordOVER (x ∷ l ∷ k 
 verdict-short (Split d) = omega (arith, side-short wordSPLIT [] d)
 verdict-short (Cut x d) = omega (arith, side-short wordCUT (x ∷ []) d)
 verdict-short Okay = omega arith
+
+pub site-short : (a : Site) → length (siteLine a) ≤ 43
+site-short (site.Down v d) = omega (arith, side-short wordSITE (v ∷ []) d)
+site-short site.Okay = omega arith
 
 pub finding-short : (f : Finding) → length (findingLine f) ≤ 48
 finding-short (Found n t) = omega (arith, behind-short wordFOUND (n ∷ t ∷ []) (10 ∷ []))
@@ -95,22 +103,25 @@ moved-short m (More b t) = omega arith
 pub bad-short : (k p : ℕ) → length (badText k p) ≤ 50
 bad-short k p = omega (arith, length-append (badLine k p) endLine, behind-short wordBAD (k ∷ p ∷ []) (10 ∷ []))
 
-pub report-short : (g : Reading) → length (reportOf g) ≤ 633
+pub report-short : (g : Reading) → length (reportOf g) ≤ 676
 report-short (good m) =
     let c = chosen m 0 in
     let f = finding m reportLimit in
     let found = (findingLine f ++ movesOf m f) ++ endLine in
-    let scored = scoreLine (scoreF c) (scoreFc c) ++ found in
+    let closed = siteLine (siteOf c) ++ found in
+    let scored = scoreLine (scoreF c) (scoreFc c) ++ closed in
     omega (
       arith,
       behind-short wordBOOK (length (m .nodes) ∷ length (m .spans) ∷ length (m .lightpaths) ∷ length (m .alternatives) ∷ []) (10 ∷ []),
       behind-short wordSCORE (scoreF c ∷ scoreFc c ∷ []) (10 ∷ []),
       verdict-short (verdict c),
+      site-short (siteOf c),
       finding-short f,
       moved-short m f,
       length-append (bookLine m) (verdictLine (verdict c) ++ scored),
       length-append (verdictLine (verdict c)) scored,
-      length-append (scoreLine (scoreF c) (scoreFc c)) found,
+      length-append (scoreLine (scoreF c) (scoreFc c)) closed,
+      length-append (siteLine (siteOf c)) found,
       length-append (findingLine f ++ movesOf m f) endLine,
       length-append (findingLine f) (movesOf m f),
     )

@@ -7,10 +7,11 @@ use Rattle.book.specs.Choice.{choices}
 use Rattle.book.specs.declared.write.Written.{Written}
 use Rattle.book.specs.declared.write.Written.the-variants as written
 use Rattle.judgement.specs.Judgement.{verdict, scoreF, scoreFc}
+use Rattle.judgement.specs.Sites.{siteOf}
 use Rattle.judgement.specs.declared.Asked.{Asked}
 use Rattle.judgement.specs.declared.Asked.the-variants as asked
 use Rattle.search.specs.Search.{finding}
-use Rattle.listing.specs.Report.{line, sideLine, endLine, badText, bookLine, verdictLine, scoreLine, findingLine, movesOf}
+use Rattle.listing.specs.Report.{line, sideLine, endLine, badText, bookLine, verdictLine, scoreLine, siteLine, findingLine, movesOf}
 
 -- C3: the words, in ASCII
 abbrev pub wordCHOICE : List ℕ
@@ -34,7 +35,7 @@ choiceLine n t = line wordCHOICE (n ∷ t ∷ [])
 
 -- C4, C9: `judge`, by the reading of choice n: the chosen book has as many choices as the book
 abbrev pub judgeOf : ℕ → Reading → List ℕ
-judgeOf n (good c) = choiceLine n (choices c) ++ (verdictLine (verdict c) ++ (scoreLine (scoreF c) (scoreFc c) ++ endLine))
+judgeOf n (good c) = choiceLine n (choices c) ++ (verdictLine (verdict c) ++ (scoreLine (scoreF c) (scoreFc c) ++ (siteLine (siteOf c) ++ endLine)))
 judgeOf n (refused k p) = badText k p
 
 -- C5: who is joined with a span out, and whether these are all stations

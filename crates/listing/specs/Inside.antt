@@ -10,13 +10,16 @@ use Rattle.book.specs.Memory.{bookOf}
 use Rattle.book.specs.Choice.{choices}
 use Rattle.book.specs.Writing.{chosenOf}
 use Rattle.judgement.specs.Answers.{judgedOf}
+use Rattle.judgement.specs.Sites.{closedOf}
 use Rattle.search.specs.Answers.{searchedOf}
 use Rattle.judgement.specs.declared.Judged.{Judged}
 use Rattle.judgement.specs.declared.Judged.the-variants as judged
+use Rattle.judgement.specs.declared.Closed.{Closed}
+use Rattle.judgement.specs.declared.Closed.the-variants as closed
 use Rattle.search.specs.declared.Searched.{Searched}
 use Rattle.search.specs.declared.Searched.the-variants as searched
 use Rattle.listing.specs.Text.{textOf}
-use Rattle.listing.specs.Report.{endLine, badLine, bookLine, verdictLine, scoreLine, findingLine, movesOf, reportLimit}
+use Rattle.listing.specs.Report.{endLine, badLine, bookLine, verdictLine, scoreLine, siteLine, findingLine, movesOf, reportLimit}
 use Rattle.listing.specs.Commands.{choiceLine}
 use Rattle.listing.specs.Number.{isDigit, fits32}
 use Rattle.listing.specs.declared.text.Text.{Text}
@@ -37,17 +40,25 @@ abbrev pub judgedLines : Judged → List ℕ
 judgedLines (judged.Told v f c) = verdictLine v ++ scoreLine f c
 judgedLines (judged.Refused k p) = badLine k p
 
+abbrev pub closedLine : Closed → List ℕ
+closedLine (closed.Told a) = siteLine a
+closedLine (closed.Refused k p) = badLine k p
+
 abbrev pub searchedLines : RouteBook → Searched → List ℕ
 searchedLines m (searched.Told f) = findingLine f ++ movesOf m f
 searchedLines m (searched.Refused k p) = badLine k p
 
 -- the lines of the report on the book m, by the answers of the operations on its bytes
 abbrev pub goodLines : RouteBook → List ℕ → List ℕ
-goodLines m s = bookLine m ++ (judgedLines (judgedOf (chosenOf (reading s) 0)) ++ (searchedLines m (searchedOf (reading s) reportLimit) ++ endLine))
+goodLines m s =
+    bookLine m
+    ++ (judgedLines (judgedOf (chosenOf (reading s) 0))
+    ++ (closedLine (closedOf (chosenOf (reading s) 0))
+    ++ (searchedLines m (searchedOf (reading s) reportLimit) ++ endLine)))
 
 -- the lines of `judge` on choice n, of which the book is c, likewise
 abbrev pub choiceLines : ℕ → RouteBook → List ℕ → List ℕ
-choiceLines n c s = choiceLine n (choices c) ++ (judgedLines (judgedOf (chosenOf (reading s) n)) ++ endLine)
+choiceLines n c s = choiceLine n (choices c) ++ (judgedLines (judgedOf (chosenOf (reading s) n)) ++ (closedLine (closedOf (chosenOf (reading s) n)) ++ endLine))
 
 -- a number that may be too great; and what a word is with one digit more, and with one byte more, by what it is without it
 abbrev pub fitted : ℕ → Parsed

@@ -10,6 +10,9 @@ use Rattle.book.specs.Choice.{movable, sizes, digits, chosen}
 use Rattle.judgement.specs.Judgement.{verdict, scoreF, scoreFc}
 use Rattle.judgement.specs.declared.Verdict.{Verdict}
 use Rattle.judgement.specs.declared.Verdict.the-variants.{Over, Split, Cut, Okay}
+use Rattle.judgement.specs.Sites.{siteOf}
+use Rattle.judgement.specs.declared.Site.{Site}
+use Rattle.judgement.specs.declared.Site.the-variants as site
 use Rattle.search.specs.Search.{finding}
 use Rattle.search.specs.declared.Finding.{Finding}
 use Rattle.search.specs.declared.Finding.the-variants.{Found, None, More}
@@ -33,6 +36,9 @@ wordOK = 79 ∷ 75 ∷ []
 
 abbrev pub wordSCORE : List ℕ
 wordSCORE = 83 ∷ 67 ∷ 79 ∷ 82 ∷ 69 ∷ []
+
+abbrev pub wordSITE : List ℕ
+wordSITE = 83 ∷ 73 ∷ 84 ∷ 69 ∷ []
 
 abbrev pub wordFOUND : List ℕ
 wordFOUND = 70 ∷ 79 ∷ 85 ∷ 78 ∷ 68 ∷ []
@@ -78,6 +84,11 @@ verdictLine Okay = line wordOK []
 abbrev pub scoreLine : ℕ → ℕ → List ℕ
 scoreLine f c = line wordSCORE (f ∷ c ∷ [])
 
+-- R9: the node whose closing parts the others, or the words `SITE OK`
+abbrev pub siteLine : Site → List ℕ
+siteLine (site.Down v d) = sideLine wordSITE (v ∷ []) d
+siteLine site.Okay = line (wordSITE ++ 32 ∷ wordOK) []
+
 -- R6: what the search found
 abbrev pub findingLine : Finding → List ℕ
 findingLine (Found n t) = line wordFOUND (n ∷ t ∷ [])
@@ -118,5 +129,6 @@ reportOf (good m) =
     bookLine m
     ++ (verdictLine (verdict (chosen m 0))
     ++ (scoreLine (scoreF (chosen m 0)) (scoreFc (chosen m 0))
-    ++ ((findingLine (finding m reportLimit) ++ movesOf m (finding m reportLimit)) ++ endLine)))
+    ++ (siteLine (siteOf (chosen m 0))
+    ++ ((findingLine (finding m reportLimit) ++ movesOf m (finding m reportLimit)) ++ endLine))))
 reportOf (refused k p) = badText k p

@@ -1,4 +1,5 @@
 // What each command prints: a question about a book, answered in a few lines and END, or a refusal. docs/COMMANDS.md says what each is.
+use crate::closed_line;
 use crate::judged_lines;
 use crate::lines;
 use crate::searched_lines;
@@ -27,10 +28,11 @@ fn choice_lines(s: &[u8], n: u32, b: Book) -> Text
     let none = Text::none();
     let first = lines::choice_line(none, n, total);
     let second = judged_lines(first, s, n);
-    lines::end_line(second)
+    let third = closed_line(second, s, n);
+    lines::end_line(third)
 }
 
-// The verdict and the score of choice n.
+// The verdict on choice n, its score, and what closing a node does in it.
 pub fn judge(s: &[u8], n: u32) -> Text
     ensures { λ r. ⌜ r ≡ textOf (judgeOf n (chosenOf (reading (now (s .entry))) n)) ⌝ }
 {

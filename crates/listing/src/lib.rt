@@ -7,6 +7,7 @@ pub mod text;
 
 use book::Answer;
 use book::Book;
+use judgement::Closed;
 use judgement::Judged;
 use search::Finding;
 use search::Searched;
@@ -17,10 +18,11 @@ ghost use Rattle.book.specs.Book.{RouteBook};
 ghost use Rattle.book.specs.Format.{reading};
 ghost use Rattle.book.specs.Writing.{chosenOf};
 ghost use Rattle.judgement.specs.Answers.{judgedOf};
+ghost use Rattle.judgement.specs.Sites.{closedOf};
 ghost use Rattle.search.specs.Answers.{searchedOf};
 ghost use Rattle.listing.specs.Text.{textOf};
 ghost use Rattle.listing.specs.Report.{findingLine, movesOf, reportOf};
-ghost use Rattle.listing.specs.Inside.{Adds, Holds, judgedLines, searchedLines, goodLines};
+ghost use Rattle.listing.specs.Inside.{Adds, Holds, judgedLines, closedLine, searchedLines, goodLines};
 
 // The verdict on choice n, and its score.
 pub(crate) fn judged_lines(t: Text, s: &[u8], n: u32) -> Text
@@ -33,6 +35,17 @@ pub(crate) fn judged_lines(t: Text, s: &[u8], n: u32) -> Text
             lines::score_line(first, f, c)
         }
         Judged::Refused(no, place) => lines::bad_line(t, no, place),
+    }
+}
+
+// What closing a node does in choice n.
+pub(crate) fn closed_line(t: Text, s: &[u8], n: u32) -> Text
+    ensures { λ r. ⌜ Adds t (closedLine (closedOf (chosenOf (reading (now (s .entry))) n))) r ⌝ }
+{
+    let answer = judgement::close(s, n);
+    match answer {
+        Closed::Told(a) => lines::site_line(t, a),
+        Closed::Refused(no, place) => lines::bad_line(t, no, place),
     }
 }
 
@@ -66,11 +79,13 @@ fn good_report(s: &[u8], b: Book) -> Text
     let none = Text::none();
     let first = lines::book_line(none, b);
     let second = judged_lines(first, s, 0);
-    let third = searched_lines(second, s, b, 65536);
-    lines::end_line(third)
+    let third = closed_line(second, s, 0);
+    let fourth = searched_lines(third, s, b, 65536);
+    lines::end_line(fourth)
 }
 
-// The report on a book: what it has, the verdict and the score of choice 0, and what the search finds within 65,536 trials; or its refusal.
+// The report on a book: what it has, the verdict on choice 0, its score and what closing a node does in it, and what the search finds within 65,536 trials;
+// or its refusal.
 pub fn report(s: &[u8]) -> Text
     ensures { λ r. ⌜ r ≡ textOf (reportOf (reading (now (s .entry)))) ⌝ }
 {

@@ -3,6 +3,7 @@ use crate::text::Text;
 use book::Book;
 use book::choice::Choice;
 use book::choice::Movables;
+use judgement::Site;
 use judgement::Verdict;
 use search::Finding;
 ghost use mathlib.Core.Path.{_≡_};
@@ -12,7 +13,7 @@ ghost use Rattle.book.specs.Memory.{bookOf};
 ghost use Rattle.book.specs.Choice.{movable, sizes, digits};
 ghost use Rattle.listing.specs.Text.{textOf};
 ghost use Rattle.listing.specs.Inside.{Adds};
-ghost use Rattle.listing.specs.Report.{endLine, badLine, badText, bookLine, verdictLine, scoreLine, findingLine, moveLine, moveLines};
+ghost use Rattle.listing.specs.Report.{endLine, badLine, badText, bookLine, verdictLine, scoreLine, siteLine, findingLine, moveLine, moveLines};
 ghost use Rattle.listing.specs.Commands.{choiceLine, joinedLine, choicesLine, writtenLine};
 
 // What the book has: nodes, spans, lightpaths, alternatives.
@@ -47,6 +48,16 @@ pub(crate) fn score_line(t: Text, f: u16, c: u16) -> Text
     ensures { λ r. ⌜ Adds t (scoreLine f c) r ⌝ }
 {
     t.word(b"SCORE").number(f as u64).number(c as u64).end()
+}
+
+// The node whose closing parts the others, with the side then; or that there is none.
+pub(crate) fn site_line(t: Text, a: Site) -> Text
+    ensures { λ r. ⌜ Adds t (siteLine a) r ⌝ }
+{
+    match a {
+        Site::Down(v, d) => t.word(b"SITE").number(v as u64).side(d).end(),
+        Site::Okay => t.word(b"SITE OK").end(),
+    }
 }
 
 // What the search found.

@@ -14,6 +14,9 @@ book-line-requires c κs = search needs
 judged-lines-requires : tie.Need-judged-lines-requires
 judged-lines-requires c κs = search needs
 
+closed-line-requires : tie.Need-closed-line-requires
+closed-line-requires c κs = search needs
+
 searched-lines-requires : tie.Need-searched-lines-requires
 searched-lines-requires c κs = search needs
 
@@ -22,7 +25,10 @@ end-line-requires c κs = search needs
 
 returns : tie.Need-returns
 returns c = λ m h.
-    (adds-then (c .before .before .before .book-line .ensures m (h .is)) (adds-then (c .before .before .judged-lines .ensures) (adds-then (c .before .searched-lines .ensures m h) (c .end-line .ensures)))) .shows [] (c .before .before .before .before .none .ensures)
+    let last = adds-then (c .before .searched-lines .ensures m h) (c .end-line .ensures) in
+    let judged = c .before .before .before in
+    let about = adds-then (judged .judged-lines .ensures) (adds-then (c .before .before .closed-line .ensures) last) in
+    adds-then (judged .before .book-line .ensures m (h .is)) about .shows [] (judged .before .before .none .ensures)
 
 pub good-report-spec : {M : Type 1} → statement M
 good-report-spec =
@@ -31,6 +37,7 @@ good-report-spec =
     none-requires
     book-line-requires
     judged-lines-requires
+    closed-line-requires
     searched-lines-requires
     end-line-requires
     returns)

@@ -23,17 +23,20 @@ choice-line-requires c κs = search needs
 judged-lines-requires : tie.Need-judged-lines-requires
 judged-lines-requires c κs = search needs
 
+closed-line-requires : tie.Need-closed-line-requires
+closed-line-requires c κs = search needs
+
 end-line-requires : tie.Need-end-line-requires
 end-line-requires c κs = search needs
 
 returns : tie.Need-returns
 returns c = λ m h.
-    let made = c .before .before .before .before in
+    let made = c .before .before .before .before .before in
     let n = made .before .before .before .args .n in
     let all = total-of m h (made .before .of .ensures) (made .total .ensures) in
-    let which = adds-as (ap (choiceLine n) all) (c .before .before .choice-line .ensures) in
-    let rest = adds-then (c .before .judged-lines .ensures) (c .end-line .ensures) in
-    adds-then which rest .shows [] (c .before .before .before .none .ensures)
+    let which = adds-as (ap (choiceLine n) all) (c .before .before .before .choice-line .ensures) in
+    let rest = adds-then (c .before .before .judged-lines .ensures) (adds-then (c .before .closed-line .ensures) (c .end-line .ensures)) in
+    adds-then which rest .shows [] (c .before .before .before .before .none .ensures)
 
 pub choice-lines-spec : {M : Type 1} → statement M
 choice-lines-spec =
@@ -44,5 +47,6 @@ choice-lines-spec =
     none-requires
     choice-line-requires
     judged-lines-requires
+    closed-line-requires
     end-line-requires
     returns)
