@@ -24,6 +24,7 @@ enum { GRISTVALLEY_NUMBERS = 9, GRISTVALLEY_LONGEST_BOOK = 3976 };
 
 enum { GRISTVALLEY_REFUSED = 0, GRISTVALLEY_TOLD = 1 };
 enum { GRISTVALLEY_OVER = 1, GRISTVALLEY_SPLIT = 2, GRISTVALLEY_CUT = 3, GRISTVALLEY_OK = 4 };
+enum { GRISTVALLEY_SITE_DOWN = 1, GRISTVALLEY_SITE_OK = 2 };
 enum { GRISTVALLEY_FOUND = 1, GRISTVALLEY_NONE = 2, GRISTVALLEY_MORE = 3 };
 
 /* Reads a book. TOLD: nodes, spans, lightpaths, alternatives, the set of stations (bit i for node i). */
@@ -34,6 +35,9 @@ bool gristvalley_judge(const uint8_t *book, size_t book_len, uint32_t choice, ui
 
 /* Judges a choice by contraction. OVER, SPLIT, CUT or OK: span, load, limit, side, the number of merges. */
 bool gristvalley_contract(const uint8_t *book, size_t book_len, uint32_t choice, uint64_t *out, size_t out_len);
+
+/* Judges a choice with its nodes closed one at a time. SITE_DOWN or SITE_OK: the lowest node whose closing parts the other stations, the side with it closed. */
+bool gristvalley_close(const uint8_t *book, size_t book_len, uint32_t choice, uint64_t *out, size_t out_len);
 
 /* Asks about a span of a choice. TOLD: the side with the span out, and 1 where it holds all stations, else 0. */
 bool gristvalley_ask(const uint8_t *book, size_t book_len, uint32_t choice, uint32_t span, uint64_t *out, size_t out_len);

@@ -13,12 +13,16 @@ use Rattle.book.specs.declared.Answer.the-variants as answer
 use Rattle.book.specs.declared.write.Written.{Written}
 use Rattle.book.specs.declared.write.Written.the-variants as written
 use Rattle.judgement.specs.Answers.{askedNumbers}
+use Rattle.judgement.specs.Sites.{closedNumbers}
 use Rattle.judgement.specs.declared.Verdict.{Verdict}
 use Rattle.judgement.specs.declared.Verdict.the-variants.{Over, Split, Cut, Okay}
 use Rattle.judgement.specs.declared.Judged.{Judged}
 use Rattle.judgement.specs.declared.Judged.the-variants as judged
 use Rattle.judgement.specs.declared.Contracted.{Contracted}
 use Rattle.judgement.specs.declared.Contracted.the-variants as contracted
+use Rattle.judgement.specs.declared.Site.the-variants as site
+use Rattle.judgement.specs.declared.Closed.{Closed}
+use Rattle.judgement.specs.declared.Closed.the-variants as closed
 use Rattle.judgement.specs.declared.Asked.{Asked}
 use Rattle.judgement.specs.declared.Asked.the-variants as asked
 use Rattle.search.specs.Answers.{searchedNumbers}
@@ -62,6 +66,17 @@ judgedRow (judged.Refused k p) = refusedRow k p
 abbrev pub contractedRow : Contracted → List ℕ
 contractedRow (contracted.Told v n) = verdictRow v n 0
 contractedRow (contracted.Refused k p) = refusedRow k p
+
+-- F12: what closing a node does: the node and the side
+abbrev pub closedKind : Closed → ℕ
+closedKind (closed.Told (site.Down v d)) = 1
+closedKind (closed.Told site.Okay) = 2
+closedKind (closed.Refused k p) = 0
+
+abbrev pub closedRow : Closed → List ℕ
+closedRow a =
+    let n = closedNumbers a in
+    closedKind a ∷ n .number ∷ n .place ∷ n .node ∷ n .side ∷ 0 ∷ 0 ∷ 0 ∷ 0 ∷ []
 
 -- F8: the question about a span
 abbrev pub askedKind : Asked → ℕ

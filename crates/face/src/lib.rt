@@ -9,8 +9,9 @@ ghost use Rattle.book.specs.Format.{reading};
 ghost use Rattle.book.specs.Writing.{chosenOf, writing, writtenOf, buffer};
 ghost use Rattle.judgement.specs.Answers.{judgedOf, askedOf};
 ghost use Rattle.judgement.specs.Contraction.{contractedOf};
+ghost use Rattle.judgement.specs.Sites.{closedOf};
 ghost use Rattle.search.specs.Answers.{searchedOf};
-ghost use Rattle.face.specs.Numbers.{roomy, stored, readRow, judgedRow, contractedRow, askedRow, searchedRow, writtenRow};
+ghost use Rattle.face.specs.Numbers.{roomy, stored, readRow, judgedRow, contractedRow, closedRow, askedRow, searchedRow, writtenRow};
 
 // Reads a book.
 #[no_mangle]
@@ -41,6 +42,16 @@ pub extern "C" fn gristvalley_contract(s: &[u8], n: u32, out: &mut [u64]) -> boo
 {
     let answer = judgement::contract(s, n);
     let row = numbers::contracted_row(answer);
+    store(out, row)
+}
+
+// Judges choice n of a book with its nodes closed one at a time.
+#[no_mangle]
+pub extern "C" fn gristvalley_close(s: &[u8], n: u32, out: &mut [u64]) -> bool
+    ensures { λ r. ⌜ (r ≡ roomy (now (out .entry))) × (now (out .exit) ≡ stored (closedRow (closedOf (chosenOf (reading (now (s .entry))) n))) (now (out .entry))) ⌝ }
+{
+    let answer = judgement::close(s, n);
+    let row = numbers::closed_row(answer);
     store(out, row)
 }
 

@@ -3,14 +3,17 @@ use book::Answer;
 use book::Book;
 use book::write::Written;
 use judgement::Asked;
+use judgement::Closed;
 use judgement::Contracted;
 use judgement::Judged;
+use judgement::Site;
 use judgement::Verdict;
 use search::Finding;
 use search::Searched;
 ghost use mathlib.Core.Path.{_≡_};
+ghost use Rattle.judgement.specs.declared.Closed.the-variants as closed;
 ghost use Rattle.search.specs.declared.Searched.the-variants as searched;
-ghost use Rattle.face.specs.Numbers.{roomy, stored, refusedRow, replyRow, verdictRow, judgedRow, contractedRow, askedRow, searchedRow, writtenRow};
+ghost use Rattle.face.specs.Numbers.{roomy, stored, refusedRow, replyRow, verdictRow, judgedRow, contractedRow, closedRow, askedRow, searchedRow, writtenRow};
 
 // Stores the numbers at the front of the slice, and tells whether there was room; where there is none, nothing is stored.
 pub(crate) fn store(out: &mut [u64], told: [u64; 9]) -> bool
@@ -83,6 +86,26 @@ pub(crate) fn contracted_row(answer: Contracted) -> [u64; 9]
     match answer {
         Contracted::Told(v, merges) => verdict_row(v, merges as u64, 0),
         Contracted::Refused(no, place) => refused_row(no, place),
+    }
+}
+
+// What closing a node does.
+fn site_row(a: Site) -> [u64; 9]
+    ensures { λ r. ⌜ r ≡ closedRow (closed.Told a) ⌝ }
+{
+    match a {
+        Site::Down(v, d) => [1, 0, 0, v as u64, d, 0, 0, 0, 0],
+        Site::Okay => [2, 0, 0, 0, 0, 0, 0, 0, 0],
+    }
+}
+
+// The answer of `close`.
+pub(crate) fn closed_row(answer: Closed) -> [u64; 9]
+    ensures { λ r. ⌜ r ≡ closedRow answer ⌝ }
+{
+    match answer {
+        Closed::Told(a) => site_row(a),
+        Closed::Refused(no, place) => refused_row(no, place),
     }
 }
 

@@ -17,6 +17,13 @@ mod linked {
             out: *mut u64,
             room: usize,
         ) -> bool;
+        pub fn gristvalley_close(
+            book: *const u8,
+            len: usize,
+            choice: u32,
+            out: *mut u64,
+            room: usize,
+        ) -> bool;
         pub fn gristvalley_ask(
             book: *const u8,
             len: usize,
@@ -69,6 +76,19 @@ pub fn judge(book: &[u8], choice: u32, out: &mut [u64]) -> bool {
 pub fn contract(book: &[u8], choice: u32, out: &mut [u64]) -> bool {
     unsafe {
         linked::gristvalley_contract(
+            book.as_ptr(),
+            book.len(),
+            choice,
+            out.as_mut_ptr(),
+            out.len(),
+        )
+    }
+}
+
+/// Judges a choice with its nodes closed one at a time.
+pub fn close(book: &[u8], choice: u32, out: &mut [u64]) -> bool {
+    unsafe {
+        linked::gristvalley_close(
             book.as_ptr(),
             book.len(),
             choice,

@@ -137,26 +137,35 @@ impl Holding<'_> {
         }
     }
 
+    /// Judges a choice in every way: with spans out, by contraction, and with nodes closed.
+    fn judged(&mut self, choice: u32) {
+        let judged = wanted::judged(judged(self.bytes, choice));
+        self.same("judge", &[choice], judged, |s, out| {
+            face::judge(s, choice, out)
+        });
+        let contracted = twin::contract(self.bytes, choice);
+        self.count_pieces(&contracted);
+        let contracted = wanted::contracted(contracted);
+        if contracted[..7] != judged[..7] {
+            self.differences
+                .push(format!("contract {choice} is not judge {choice}"));
+        }
+        self.same("contract", &[choice], contracted, |s, out| {
+            face::contract(s, choice, out)
+        });
+        let closed = wanted::closed(twin::site(self.bytes, choice));
+        self.same("close", &[choice], closed, |s, out| {
+            face::close(s, choice, out)
+        });
+    }
+
     /// Every operation.
     fn all(&mut self) {
         let read = wanted::read(self.read.as_ref().map_err(|refusal| *refusal));
         self.same("read", &[], read, face::read);
         let (choices, spans, limits) = self.drawn();
         for &choice in &choices {
-            let judged = wanted::judged(judged(self.bytes, choice));
-            self.same("judge", &[choice], judged, |s, out| {
-                face::judge(s, choice, out)
-            });
-            let contracted = twin::contract(self.bytes, choice);
-            self.count_pieces(&contracted);
-            let contracted = wanted::contracted(contracted);
-            if contracted[..7] != judged[..7] {
-                self.differences
-                    .push(format!("contract {choice} is not judge {choice}"));
-            }
-            self.same("contract", &[choice], contracted, |s, out| {
-                face::contract(s, choice, out)
-            });
+            self.judged(choice);
         }
         for &choice in &choices[1..] {
             self.written(choice);

@@ -1,6 +1,6 @@
 //! The nine numbers that docs/FACE.md gives to each answer of the twin.
 
-use twin::{Answer, Book, Contracted, Refusal, Verdict};
+use twin::{Answer, Book, Contracted, Refusal, Site, Verdict};
 
 /// A kind, the number and place of a refusal, and what the answer carries.
 pub type Nine = [u64; 9];
@@ -61,6 +61,14 @@ pub fn judged(answer: Result<(Verdict, (u32, u32)), Refusal>) -> Nine {
 pub fn contracted(answer: Result<Contracted, Refusal>) -> Nine {
     nine(answer, |told| {
         verdict(told.verdict, [told.merges as u64, 0])
+    })
+}
+
+/// What closing a node tells: the node and the side.
+pub fn closed(answer: Result<Site, Refusal>) -> Nine {
+    nine(answer, |site| match site {
+        Site::Down { node, side } => (1, [node as u64, side, 0, 0, 0, 0]),
+        Site::Okay => (2, [0; 6]),
     })
 }
 
