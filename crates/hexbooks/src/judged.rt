@@ -2,18 +2,21 @@
 //
 //     JUDGE n VERDICT                the verdict that `judge` answers: OVER span load limit, SPLIT side, CUT span side, or OK
 //     SCORE n F Fc                   the score that `judge` answers
+//     SITE n OK or DOWN node side    what `close` answers
 //     ASK n x side whole             what `ask` answers of span x, for all spans, or four where they are more than six; whole is 1 or 0
 //     ASK n x BAD 13 0               and of the number after the last span
 //
-// and then a JUDGE, a SCORE and an ASK with number T. A refused book prints a JUDGE, a SCORE and an ASK with numbers 0 and 4294967295. A refusal is printed
-// as `BAD number place`, and a side in decimal.
+// and then a JUDGE, a SCORE, a SITE and an ASK with number T. A refused book prints these four with numbers 0 and 4294967295. A refusal is printed as
+// `BAD number place`, and a side in decimal.
 use crate::say::number;
 use crate::say::print_refusal;
 use crate::say::word;
 use book::Answer;
 use book::choice::Movables;
 use judgement::Asked;
+use judgement::Closed;
 use judgement::Judged;
+use judgement::Site;
 use judgement::Verdict;
 
 // The most choices, and the most spans, that are all tried.
@@ -77,6 +80,29 @@ fn print_judge(s: &[u8], n: u32) {
     }
 }
 
+// Ends a line with what closing a node does.
+fn end_site(a: Site) {
+    match a {
+        Site::Down(v, d) => {
+            word(b" DOWN");
+            number(v as u64);
+            number(d);
+        }
+        Site::Okay => word(b" OK"),
+    }
+    word(b"\n");
+}
+
+// Prints the line for closing the nodes in choice `n`.
+fn print_site(s: &[u8], n: u32) {
+    let j = judgement::close(s, n);
+    start_line(b"SITE", n);
+    match j {
+        Closed::Told(a) => end_site(a),
+        Closed::Refused(no, place) => end_refused(no, place),
+    }
+}
+
 // Prints the line for the question about span `x` in choice `n`.
 fn print_ask(s: &[u8], n: u32, x: u32) {
     start_line(b"ASK", n);
@@ -110,6 +136,7 @@ fn print_asks(s: &[u8], n: u32, spans: u32) {
 // Prints the lines for choice `n`.
 fn print_choice(s: &[u8], n: u32, spans: u32) {
     print_judge(s, n);
+    print_site(s, n);
     print_asks(s, n, spans);
 }
 
@@ -130,9 +157,10 @@ fn print_choices(s: &[u8], t: u32, spans: u32) {
     }
 }
 
-// Prints the three lines that are refused for number `n`.
+// Prints the four lines that are refused for number `n`.
 fn print_refused(s: &[u8], n: u32, x: u32) {
     print_judge(s, n);
+    print_site(s, n);
     print_ask(s, n, x);
 }
 
