@@ -19,9 +19,15 @@ use Rattle.judgement.specs.declared.Site.{Site}
 use Rattle.judgement.specs.declared.Site.the-variants.{Down, Okay}
 use Rattle.judgement.specs.declared.Closed.{Closed}
 use Rattle.judgement.specs.declared.Closed.the-variants.{Told, Refused}
-use Rattle.judgement.specs.Sites.{siteOf, SiteGiven, closedOf, closedNumbers}
-use Rattle.judgement.proofs.Opened.{told-good}
+use Rattle.judgement.specs.declared.Verdict.{Verdict}
+use Rattle.judgement.specs.declared.Judged.{Judged}
+use Rattle.judgement.specs.declared.Judged.the-variants as judged
+use Rattle.judgement.specs.Judgement.{verdict}
+use Rattle.judgement.specs.Answers.{judgedOf}
+use Rattle.judgement.specs.Sites.{siteOf, SiteGiven, Three, closedOf, closedNumbers}
+use Rattle.judgement.proofs.Opened.{fits-all, told-good}
 use Rattle.judgement.proofs.Sites.{site-given, site-only}
+use Rattle.judgement.proofs.Standing.{OkayOrOver, site-verdict}
 
 -- the bytes s are a well-formed book, n is the number of one of its choices, and the site is given of the chosen book
 pub record Closes (x : Site) (s : List ℕ) (n : ℕ) : Type 0 where
@@ -62,3 +68,15 @@ module _ (s : List ℕ) (n : ℕ) (h : Bytes s) where
         to : (g : Reading) → closedOf g ≡ Refused k p → g ≡ refused k p
         to (good m) e = let z : _≡_ {A = ℕ} 0 1 = cc in absurd (omega arith)
         to (refused i j) e = let a : i ≡ k = cc in let b : j ≡ p = cc in rw (a, b)
+
+-- THE TWO JUDGEMENTS: r is what `close` answers, and r′ what `judge` answers, of the same bytes and the same choice
+module _ (s : List ℕ) (n : ℕ) (h : Bytes s) (r : Closed) (r′ : Judged) (met : r ≡ closedOf (chosenOf (reading s) n)) (met′ : r′ ≡ judgedOf (chosenOf (reading s) n)) where
+  pub close-judge : r ≡ Told Okay → ((m : RouteBook) → chosenOf (reading s) n ≡ good m → Three m) → (v : Verdict) (f c : ℕ) → r′ ≡ judged.Told v f c → OkayOrOver v
+  close-judge e three v f c e′ = go (chosenOf (reading s) n) refl (sym met ∙ e) (sym met′ ∙ e′)
+    where
+      go : (g : Reading) → chosenOf (reading s) n ≡ g → closedOf g ≡ Told Okay → judgedOf g ≡ judged.Told v f c → OkayOrOver v
+      go (good m) q w w′ =
+          let stands : siteOf m ≡ Okay = cc in
+          let is : verdict m ≡ v = cc in
+          subst OkayOrOver is (site-verdict m (fits-all s n h m q) (three m q) stands)
+      go (refused k p) q w w′ = let z : _≡_ {A = ℕ} 0 1 = cc in absurd (omega arith)

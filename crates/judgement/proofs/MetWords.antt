@@ -25,10 +25,11 @@ use Rattle.book.proofs.Walking.{route-cons, below-wider}
 use Rattle.book.proofs.Lightpaths.{column-at}
 use Rattle.book.proofs.Writers.{noLightpath, row-here, len-here}
 use Rattle.book.proofs.NodesMet.{met-none, met-next}
+use Rattle.judgement.specs.Network.{sideOf}
 use Rattle.judgement.specs.Judgement.{stations}
-use Rattle.judgement.specs.Inside.{unset, sideIn}
+use Rattle.judgement.specs.Inside.{netOf, unset}
 use Rattle.judgement.specs.Holding.{Held}
-use Rattle.judgement.specs.Closing.{EndsLow, otherEnd, metIn, routeIn, metOf, MetBy, leftIn, sideLeftIn, siteIn}
+use Rattle.judgement.specs.Closing.{EndsLow, otherEnd, metIn, routeIn, metOf, MetBy, leftIn, sideLeftBy, siteIn}
 use Rattle.judgement.specs.Sites.{meets, spared, stationsLeft, lowestLeft, sideLeft, stands, siteOf}
 use Rattle.judgement.specs.declared.Site.the-variants.{Down, Okay}
 use Rattle.judgement.proofs.Sets.{set-same, has-put, taken-out, lacks-bit}
@@ -135,14 +136,14 @@ module _ (m : RouteBook) (fits : wellFormed m ≡ true) where
   ))
 
   module _ {words : List ℕ} (w : MetBy (bookOf m) (length (m .lightpaths)) words) where
-    side-left-in : (v : ℕ) → v < 64 → sideLeftIn (bookOf m) words v ≡ sideLeft m v
+    side-left-in : (v : ℕ) → v < 64 → sideLeftBy (bookOf m) words v ≡ sideLeft m v
     side-left-in v l =
-        ap (λ (s : ℕ). cond (eqb s 0) 0 (sideIn (bookOf m) (trailingZeros 64 s) words v)) (left-in v l)
+        ap (λ (s : ℕ). cond (eqb s 0) 0 (sideOf (netOf (bookOf m .lightpaths) (bookOf m .from) (bookOf m .to)) (unset words v) 64 (trailingZeros 64 s))) (left-in v l)
         ∙ ap (λ (d : ℕ). cond (eqb (stationsLeft m v) 0) 0 d) (alike m (unset words v) (spared m v) (λ k q. ap (λ (x : ℕ). not (has x v)) (w .each k q) ∙ ap not (met-is m fits k q v)) (lowestLeft m v))
 
     site-words : siteIn (bookOf m) words ≡ siteOf m
     site-words =
-        first-alike (λ v. not (eqb (sideLeftIn (bookOf m) words v) (leftIn (stations m) v))) (λ v. not (stands m v)) (λ v. Down v (sideLeftIn (bookOf m) words v)) (λ v. Down v (sideLeft m v)) Okay (length (m .nodes)) 0 λ v a l.
+        first-alike (λ v. not (eqb (sideLeftBy (bookOf m) words v) (leftIn (stations m) v))) (λ v. not (stands m v)) (λ v. Down v (sideLeftBy (bookOf m) words v)) (λ v. Down v (sideLeft m v)) Okay (length (m .nodes)) 0 λ v a l.
         let s = side-left-in v (omega (arith, l, counts m fits .0)) in
         (ap₂ (λ (x y : ℕ). not (eqb x y)) s (left-in v (omega (arith, l, counts m fits .0))), ap (Down v) s)
 

@@ -1,9 +1,10 @@
 -- A SITE DOWN: with a node closed the side that is computed holds just the stations left that are joined to the lowest of them, and it is all of them
 -- exactly if any two are joined. So the answer names the lowest node at fault, and no other answer does; nothing is asked of the network with all nodes open.
 use Prim.Native.Nat.{ℕ, _^_, _<_, _≤_, zero-le}
-use mathlib.Core.Path.{_≡_, refl, sym, ap, _∙_, subst}
+use mathlib.Core.Path.{_≡_, sym, ap, _∙_, subst}
 use mathlib.Core.Logic.{_⊎_, inl, inr, _↔_}
 use mathlib.Core.Bool.{Bool, true, false, not, false≢true}
+use native.Mathlib.Nat.{le-antisymm}
 use native.Mathlib.Decide.{decLt, ℕ-discrete}
 use native.Mathlib.Omega.{arith}
 use lib.ListN.{length, getD, set, length-set, List·getD-eq-default}
@@ -20,7 +21,7 @@ use Rattle.book.proofs.NodesMet.{met-start, met-end}
 use Rattle.judgement.specs.Network.{Joined, start, more}
 use Rattle.judgement.specs.Judgement.{network, stations}
 use Rattle.judgement.specs.Meaning.{Least}
-use Rattle.judgement.specs.Sites.{spared, meets, stationsLeft, lowestLeft, sideLeft, stands, siteOf, IsOther, OthersJoined, IsDown, SiteGiven, down, okay}
+use Rattle.judgement.specs.Sites.{spared, meets, stationsLeft, lowestLeft, sideLeft, stands, siteOf, IsOther, OthersJoined, IsDown, IsSide, SiteGiven, down, okay}
 use Rattle.judgement.specs.declared.Site.{Site}
 use Rattle.judgement.specs.declared.Site.the-variants.{Down, Okay}
 use Rattle.judgement.proofs.Tests.{not-when, when-not-not}
@@ -133,6 +134,28 @@ module _ (m : RouteBook) (good : wellFormed m ≡ true) (v : ℕ) where
             true-has (sideLeft m v) i (side-left-has i .1 (o, all (lowestLeft m v) i (lowest-other (some-left i o)) o))),
       )))
 
+  -- where two of the others are not joined there is one, and so a side of the lowest; and there is one such side
+  down-some : IsDown m v → SomeLeft
+  down-some d e = d (λ i j a b. absurd (some-left i a e))
+
+  side-is : SomeLeft → IsSide m v (sideLeft m v)
+  side-is n = record {
+    from = lowestLeft m v;
+    is-other = lowest-other n;
+    lowest = λ i o. lowest-left i o .1;
+    low = side-left-lt;
+    holds = λ i. ((λ h. side-left-has i .0 h .1), (λ j. side-left-has i .1 (joined-other (lowest-other n) j, j)));
+  }
+
+  pub side-once : {d : ℕ} → IsSide m v d → d ≡ sideLeft m v
+  side-once {d} s = set-same 64 d (sideLeft m v) (s .low) side-left-lt (λ i l. (
+    (λ h. let j = subst (λ (n : ℕ). Joined (network m) (spared m v) n i) at (s .holds i .0 (has-true d i h)) in true-has (sideLeft m v) i (side-left-has i .1 (joined-other (lowest-other (some-left (s .from) (s .is-other))) j, j))),
+    (λ h. true-has d i (s .holds i .1 (subst (λ (n : ℕ). Joined (network m) (spared m v) n i) (sym at) (side-left-has i .0 (has-true (sideLeft m v) i h) .1)))),
+  ))
+    where
+      at : s .from ≡ lowestLeft m v
+      at = let w = lowest-left (s .from) (s .is-other) in le-antisymm (s .lowest (lowestLeft m v) (w .0)) (w .1)
+
 module _ (m : RouteBook) (good : wellFormed m ≡ true) where
   abbrev test : ℕ → Bool
   test v = not (stands m v)
@@ -145,17 +168,20 @@ module _ (m : RouteBook) (good : wellFormed m ≡ true) where
   site-given = go (first test answer Okay (length (m .nodes)) 0)
     where
       go : {r : Site} → First test answer Okay (length (m .nodes)) 0 r → SiteGiven m r
-      go (there v a b h low) = down v (record {
-        below = omega (arith, b);
-        holds = λ all. false≢true (sym (not-true (stands m v) h) ∙ stands-joined m good v .1 all);
-        before = λ y l c. c (stands-joined m good y .0 (not-false (stands m y) (low y zero-le l)));
-      })
+      go (there v a b h low) =
+          let is-down : IsDown m v = λ all. false≢true (sym (not-true (stands m v) h) ∙ stands-joined m good v .1 all) in
+          down v (sideLeft m v) (record {
+            below = omega (arith, b);
+            holds = is-down;
+            before = λ y l c. c (stands-joined m good y .0 (not-false (stands m y) (low y zero-le l)));
+          }) (side-is m good v (down-some m good v is-down))
       go (nowhere h) = okay (λ v l. stands-joined m good v .0 (not-false (stands m v) (h v zero-le (omega (arith, l)))))
 
   -- and no other answer means that
   pub site-only : {r : Site} → SiteGiven m r → r ≡ siteOf m
-  site-only (down v c) =
-      first-only test answer Okay (length (m .nodes)) 0
+  site-only (down v d c s) =
+      ap (Down v) (side-once m good v s)
+      ∙ first-only test answer Okay (length (m .nodes)) 0
       (there v zero-le (omega (arith, c .below)) (ap not (not-when (stands m v) (stands-joined m good v .0) (c .holds))) (λ y a l. ap not (when-not-not (stands m y) (stands-joined m good y .1) (c .before y l))))
   site-only (okay all) = first-only test answer Okay (length (m .nodes)) 0 (nowhere (λ v a l. ap not (stands-joined m good v .1 (all v (omega (arith, l))))))
 
@@ -163,11 +189,11 @@ module _ (m : RouteBook) (good : wellFormed m ≡ true) where
   site-once g g′ = site-only g ∙ sym (site-only g′)
 
   -- each kind by itself, with its numbers
-  pub down-exact : (v d : ℕ) → (siteOf m ≡ Down v d) ↔ (Least (IsDown m) (length (m .nodes)) v × (d ≡ sideLeft m v))
-  down-exact v d = ((λ e. go (subst (SiteGiven m) e site-given)), (λ p. sym (site-only (down v (p .0))) ∙ rw (p .1)))
+  pub down-exact : (v d : ℕ) → (siteOf m ≡ Down v d) ↔ (Least (IsDown m) (length (m .nodes)) v × IsSide m v d)
+  down-exact v d = ((λ e. go (subst (SiteGiven m) e site-given)), (λ p. sym (site-only (down v d (p .0) (p .1)))))
     where
-      go : {v d : ℕ} → SiteGiven m (Down v d) → Least (IsDown m) (length (m .nodes)) v × (d ≡ sideLeft m v)
-      go (down v c) = (c, refl)
+      go : {v d : ℕ} → SiteGiven m (Down v d) → Least (IsDown m) (length (m .nodes)) v × IsSide m v d
+      go (down v d c s) = (c, s)
 
   pub site-okay : (siteOf m ≡ Okay) ↔ ((v : ℕ) → v < length (m .nodes) → OthersJoined m v)
   site-okay = ((λ e. go (subst (SiteGiven m) e site-given)), (λ all. sym (site-only (okay all))))

@@ -17,19 +17,27 @@ use Rattle.book.proofs.Stages.{station-low}
 use Rattle.book.proofs.Bounds.{span-ends}
 use Rattle.book.proofs.NodesMet.{met-span}
 use Rattle.judgement.specs.Network.{Joined}
-use Rattle.judgement.specs.Judgement.{rides, network, without, allUp, stations, lowest, acceptable}
+use Rattle.judgement.specs.Judgement.{rides, network, without, allUp, stations, lowest, verdict, acceptable}
 use Rattle.judgement.specs.Cuts.{AllJoined, Survives}
 use Rattle.judgement.specs.Meaning.{NoneOver, IsCut}
 use Rattle.judgement.specs.Withdrawn.{NoLess}
 use Rattle.judgement.specs.Sites.{meets, spared, stands, siteOf, IsOther, OthersJoined, IsDown, Three}
 use Rattle.judgement.specs.declared.Site.the-variants.{Okay}
+use Rattle.judgement.specs.declared.Verdict.{Verdict}
+use Rattle.judgement.specs.declared.Verdict.the-variants.{Over, Split, Cut}
+use Rattle.judgement.specs.declared.Verdict.the-variants as kind
 use Rattle.judgement.proofs.Tests.{or-l, or-r, or-inv}
 use Rattle.judgement.proofs.Chains.{join-trans, join-sym}
 use Rattle.judgement.proofs.Stations.{lowest-has}
 use Rattle.judgement.proofs.Loads.{route-fits}
-use Rattle.judgement.proofs.Verdicts.{acceptable-joined}
+use Rattle.judgement.proofs.Verdicts.{split-exact, cut-exact, acceptable-joined}
 use Rattle.judgement.proofs.Withdrawn.{not-less, joined-stays}
 use Rattle.judgement.proofs.Sites.{stands-joined, site-okay}
+
+-- a verdict that is OK or OVER
+pub data OkayOrOver : Verdict → Type 0 where
+  is-okay : OkayOrOver kind.Okay
+  is-over : (x l w : ℕ) → OkayOrOver (Over x l w)
 
 -- more is up with all nodes open
 module _ (m : RouteBook) where
@@ -176,3 +184,12 @@ module _ (m : RouteBook) (good : wellFormed m ≡ true) (three : Three m) where
   -- so it is acceptable unless a span is over: its verdict is OK or OVER
   pub site-acceptable : siteOf m ≡ Okay → (acceptable m ≡ true) ↔ NoneOver m
   site-acceptable e = ((λ h. acceptable-joined m good .0 h .0), (λ none. acceptable-joined m good .1 (none, site-survives e)))
+
+  pub site-verdict : siteOf m ≡ Okay → OkayOrOver (verdict m)
+  site-verdict e = go (verdict m) refl
+    where
+      go : (v : Verdict) → verdict m ≡ v → OkayOrOver v
+      go (Over x l w) q = is-over x l w
+      go (Split d) q = absurd (split-exact m good d .0 q .1 (site-survives e .intact))
+      go (Cut x d) q = let c = cut-exact m good x d .0 q .2 in absurd (c .holds (site-survives e .each x (c .below)))
+      go kind.Okay q = is-okay

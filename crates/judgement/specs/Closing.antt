@@ -9,8 +9,9 @@ use lib.ListN.{length, getD, take, drop}
 use lib.Count.{trailingZeros}
 use Rattle.book.specs.declared.Book.{Book}
 use Rattle.book.specs.Bits.{has, put}
+use Rattle.judgement.specs.Network.{sideOf}
 use Rattle.judgement.specs.Judgement.{firstOf}
-use Rattle.judgement.specs.Inside.{sideIn}
+use Rattle.judgement.specs.Inside.{netOf, unset}
 use Rattle.judgement.specs.declared.Site.{Site}
 use Rattle.judgement.specs.declared.Site.the-variants.{Down, Okay}
 
@@ -43,12 +44,14 @@ pub record MetBy (b : Book) (n : ℕ) (words : List ℕ) : Type 0 where
 abbrev pub leftIn : ℕ → ℕ → ℕ
 leftIn all v = cond (has all v) (bitXor all (put 0 v)) all
 
--- with node v closed: the side, whether it lacks a station that is left, and the answer that names the node
-abbrev pub sideLeftIn : Book → List ℕ → ℕ → ℕ
-sideLeftIn b words v =
-    let all = leftIn (b .stations) v in
-    let d = sideIn b (trailingZeros 64 all) words v in
-    cond (eqb all 0) 0 d
+-- with node v closed: the side by the words, that of a book, and the answer that names the lowest node at which it lacks a station that is left
+abbrev pub sideLeftIn : ℕ → ℕ → List ℕ → List ℕ → List ℕ → ℕ → ℕ
+sideLeftIn all n from to words v =
+    let d = sideOf (netOf n from to) (unset words v) 64 (trailingZeros 64 (leftIn all v)) in
+    cond (eqb (leftIn all v) 0) 0 d
+
+abbrev pub sideLeftBy : Book → List ℕ → ℕ → ℕ
+sideLeftBy b words v = sideLeftIn (b .stations) (b .lightpaths) (b .from) (b .to) words v
 
 abbrev pub siteIn : Book → List ℕ → Site
-siteIn b words = firstOf (λ v. not (eqb (sideLeftIn b words v) (leftIn (b .stations) v))) (λ v. Down v (sideLeftIn b words v)) Okay (b .nodes) 0
+siteIn b words = firstOf (λ v. not (eqb (sideLeftBy b words v) (leftIn (b .stations) v))) (λ v. Down v (sideLeftBy b words v)) Okay (b .nodes) 0

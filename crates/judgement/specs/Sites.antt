@@ -1,6 +1,7 @@
 -- A site down: the other stations when a node is closed, with every lightpath that meets it: docs/SITES.md.
-use Prim.Native.Nat.{ℕ, _<_}
+use Prim.Native.Nat.{ℕ, _^_, _<_, _≤_}
 use mathlib.Core.Path.{_≡_}
+use mathlib.Core.Logic.{_↔_}
 use mathlib.Core.Bool.{Bool, true, false, cond, not}
 use lib.Dec.{eqb}
 use lib.ListN.{length, set}
@@ -57,12 +58,20 @@ module _ (m : RouteBook) where
   abbrev pub IsDown : ℕ → Type 0
   IsDown v = OthersJoined v → ⊥
 
+  -- D4: d is the set of what is joined to the lowest of the others
+  pub record IsSide (v d : ℕ) : Type 0 where
+    pub from : ℕ
+    pub is-other : IsOther v from
+    pub lowest : (i : ℕ) → IsOther v i → from ≤ i
+    pub low : d < 2 ^ mostNodes
+    pub holds : (i : ℕ) → (has d i ≡ true) ↔ Joined (network m) (spared m v) from i
+
   -- D6, D7: the two kinds, each with its own numbers
   pub data SiteGiven : Site → Type 0 where
-    down : (v : ℕ) → Least IsDown (length (m .nodes)) v → SiteGiven (Down v (sideLeft m v))
+    down : (v d : ℕ) → Least IsDown (length (m .nodes)) v → IsSide v d → SiteGiven (Down v d)
     okay : ((v : ℕ) → v < length (m .nodes) → OthersJoined v) → SiteGiven Okay
 
-  -- D8: three stations at least
+  -- D10: three stations at least
   pub record Three : Type 0 where
     pub a : ℕ
     pub b : ℕ
@@ -74,12 +83,12 @@ module _ (m : RouteBook) where
     pub a-c : a ≡ c → ⊥
     pub b-c : b ≡ c → ⊥
 
--- D9: what the operation answers
+-- D8: what the operation answers
 abbrev pub closedOf : Reading → Closed
 closedOf (good m) = closed.Told (siteOf m)
 closedOf (refused k p) = closed.Refused k p
 
--- D10: the numbers of an answer, for each of its cases; whatever it does not carry is 0
+-- D9: the numbers of an answer, for each of its cases; whatever it does not carry is 0
 pub record SiteNumbers : Type 0 where
   pub number : ℕ
   pub place : ℕ

@@ -8,9 +8,11 @@ ghost use mathlib.Core.Path.{_≡_};
 ghost use mathlib.Core.Bool.{true, cond};
 ghost use Prim.Native.Nat.{_<_};
 ghost use lib.Dec.{eqb};
+ghost use lib.ListN.{length};
 ghost use Rattle.book.specs.Book.{RouteBook, below, wellFormed};
 ghost use Rattle.book.specs.Memory.{bookOf};
 ghost use Rattle.book.specs.Format.{good};
+ghost use Rattle.judgement.specs.Inside.{Fits};
 ghost use Rattle.judgement.specs.Holding.{Held};
 ghost use Rattle.judgement.specs.Closing.{EndsLow, metIn, MetBy, leftIn, sideLeftIn, siteIn};
 ghost use Rattle.judgement.specs.Sites.{closedOf};
@@ -70,18 +72,23 @@ fn stations_left(all: Side, v: u8) -> Side
     all.beyond(none.with(v))
 }
 
-// The side when node v is closed: it starts at the lowest station that is left, and is empty where none is.
-fn side_left(b: Book, words: [u64; 152], v: u8) -> Side
-    requires { ⌜ Held b × MetBy b (b .lightpaths) words × (v < 64) ⌝ }
-    ensures { λ r. ⌜ r .mask ≡ sideLeftIn b words v ⌝ }
+// The side when node v is closed, which is a bit of the lightpaths' words: it starts at the lowest of the stations that are left, and is empty where none is.
+fn side_left<'a>(
+    all: Side,
+    from: &'a [u8; 96],
+    to: &'a [u8; 96],
+    words: &'a [u64; 152],
+    v: u8,
+    n: usize,
+) -> Side
+    requires { ⌜ Fits n (now from) (now to) × (length (now words) ≡ 152) × (v < 64) ⌝ }
+    ensures { λ r. ⌜ r .mask ≡ sideLeftIn (all .mask) n (now (from .entry)) (now (to .entry)) (now (words .entry)) v ⌝ }
 {
-    let all = Side { mask: b.stations };
     let left = stations_left(all, v);
     if left.mask == 0 {
         return left;
     }
-    let n = b.lightpaths as usize;
-    side::side_without(left.lowest(), &b.from, &b.to, &words, v, n)
+    side::side_without(left.lowest(), from, to, words, v, n)
 }
 
 // The lowest node whose closing parts the stations that are left, with the side then.
@@ -89,11 +96,12 @@ fn first_down(b: Book, words: [u64; 152]) -> Site
     requires { ⌜ Held b × MetBy b (b .lightpaths) words ⌝ }
     ensures { λ r. ⌜ r ≡ siteIn b words ⌝ }
 {
+    let n = b.lightpaths as usize;
     let all = Side { mask: b.stations };
     let mut v = 0;
     while v < b.nodes {
         let left = stations_left(all, v);
-        let s = side_left(b, words, v);
+        let s = side_left(all, &b.from, &b.to, &words, v, n);
         if s.mask != left.mask {
             return Site::Down(v, s.mask);
         }
