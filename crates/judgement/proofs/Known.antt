@@ -10,7 +10,7 @@ use Rattle.book.specs.Bits.{has}
 use Rattle.book.proofs.Bits.{has-true, true-has}
 use Rattle.judgement.specs.Network.{Network, Joined, sideOf}
 use Rattle.judgement.specs.Judgement.{one}
-use Rattle.judgement.specs.Inside.{netOf, Fits, IsSide, EndsIn, unset, apartAt, apartOn}
+use Rattle.judgement.specs.Inside.{netOf, Fits, OneSide, EndsIn, unset, apartAt, apartOn}
 use Rattle.judgement.proofs.Chains.{join-trans, join-sym}
 use Rattle.judgement.proofs.Joins.{side-joined}
 use Rattle.judgement.proofs.Sums.{sum-none}
@@ -22,7 +22,7 @@ module _ (W : ℕ) (net : Network) (up : ℕ → Bool) (low : (k : ℕ) → k < 
   has-joined : (s i : ℕ) → s < W → (has (sideOf net up W s) i ≡ true) ↔ Joined net up s i
   has-joined s i l = let j = side-joined net up W low s l i in ((λ h. j .0 (true-has _ i h)), (λ q. has-true _ i (j .1 q)))
 
-  module _ {d : ℕ} (k : IsSide W net up d) where
+  module _ {d : ℕ} (k : OneSide W net up d) where
     known-joined : (i : ℕ) → (has d i ≡ true) ↔ Joined net up (k .start) i
     known-joined i = rw (k .is) (has-joined (k .start) i (k .low))
 
@@ -42,7 +42,7 @@ module _ (W : ℕ) (net : Network) (up : ℕ → Bool) (low : (k : ℕ) → k < 
         (λ e. sym h ∙ known-joined a .1 (join-trans net up (known-joined b .0 q) (join-sym net up (has-joined a b l .0 e))))
 
 -- no ends are apart where all are in one side
-pub none-apart : {n : ℕ} {from to : List ℕ} (words : List ℕ) (i : ℕ) {d : ℕ} → Fits n from to → IsSide 64 (netOf n from to) (unset words i) d → EndsIn n from to d → 0 ≡ apartOn n from to words i
+pub none-apart : {n : ℕ} {from to : List ℕ} (words : List ℕ) (i : ℕ) {d : ℕ} → Fits n from to → OneSide 64 (netOf n from to) (unset words i) d → EndsIn n from to d → 0 ≡ apartOn n from to words i
 none-apart {n} {from} {to} words i {d} f s e = sym (sum-none (λ k. one (apartAt n from to words i k)) n (λ k l. none k l))
   where
     none : (k : ℕ) → k < n → one (apartAt n from to words i k) ≡ 0

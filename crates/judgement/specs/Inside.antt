@@ -58,7 +58,7 @@ pub record LedBySome (W : ℕ) (rows : List ℕ) : Type 0 where
   pub led : Led W rows net up
 
 -- d is the side of some node
-pub record IsSide (W : ℕ) (net : Network) (up : ℕ → Bool) (d : ℕ) : Type 0 where
+pub record OneSide (W : ℕ) (net : Network) (up : ℕ → Bool) (d : ℕ) : Type 0 where
   pub start : ℕ
   pub low : start < W
   pub is : d ≡ sideOf net up W start

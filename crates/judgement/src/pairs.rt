@@ -10,12 +10,12 @@ ghost use lib.ListN.{length};
 ghost use Rattle.book.specs.Bits.{has};
 ghost use Rattle.judgement.specs.Network.{Network, sideOf};
 ghost use Rattle.judgement.specs.Judgement.{sum, one};
-ghost use Rattle.judgement.specs.Inside.{netOf, upOf, Fits, Led, LedBySome, IsSide, EndsIn, partedBy, unset, apartOn};
+ghost use Rattle.judgement.specs.Inside.{netOf, upOf, Fits, Led, LedBySome, OneSide, EndsIn, partedBy, unset, apartOn};
 
 // Whether two nodes are joined, given where the lightpaths that are up lead, and one side. Where that holds one of the two it tells; else a side is grown.
 fn joined(a: u8, b: u8, rows: &[u64; 64], known: Side) -> bool
     requires { ⌜ (a < 64) × (b < 64) × LedBySome 64 (now rows) ⌝ }
-    ensures { λ r. ⌜ ((net : Network) → (up : ℕ → Bool) → Led 64 (now (rows .entry)) net up → IsSide 64 net up (known .mask) → r ≡ has (sideOf net up 64 a) b) ⌝ }
+    ensures { λ r. ⌜ ((net : Network) → (up : ℕ → Bool) → Led 64 (now (rows .entry)) net up → OneSide 64 net up (known .mask) → r ≡ has (sideOf net up 64 a) b) ⌝ }
 {
     if known.has(a) {
         return known.has(b);
@@ -29,7 +29,7 @@ fn joined(a: u8, b: u8, rows: &[u64; 64], known: Side) -> bool
 // One lightpath: 1 where it is not up and its ends are not joined, and else 0.
 fn apart_at(a: u8, b: u8, up: bool, rows: &[u64; 64], known: Side) -> u16
     requires { ⌜ (a < 64) × (b < 64) × LedBySome 64 (now rows) ⌝ }
-    ensures { λ r. ⌜ ((net : Network) → (t : ℕ → Bool) → Led 64 (now (rows .entry)) net t → IsSide 64 net t (known .mask) → r ≡ one (not up && not (has (sideOf net t 64 a) b))) ⌝ }
+    ensures { λ r. ⌜ ((net : Network) → (t : ℕ → Bool) → Led 64 (now (rows .entry)) net t → OneSide 64 net t (known .mask) → r ≡ one (not up && not (has (sideOf net t 64 a) b))) ⌝ }
 {
     if up {
         return 0;
@@ -46,7 +46,7 @@ fn apart_on<'a>(
     known: Side,
     n: usize,
 ) -> u16
-    requires { ⌜ Fits n (now from) (now to) × (length (now up) ≡ 96) × Led 64 (now rows) (netOf n (now from) (now to)) (upOf (now up)) × IsSide 64 (netOf n (now from) (now to)) (upOf (now up)) (known .mask) ⌝ }
+    requires { ⌜ Fits n (now from) (now to) × (length (now up) ≡ 96) × Led 64 (now rows) (netOf n (now from) (now to)) (upOf (now up)) × OneSide 64 (netOf n (now from) (now to)) (upOf (now up)) (known .mask) ⌝ }
     ensures { λ r. ⌜ r ≡ sum (λ k. one (partedBy n (now (from .entry)) (now (to .entry)) (upOf (now (up .entry))) k)) n ⌝ }
 {
     let mut total: u16 = 0;
