@@ -42,6 +42,10 @@ bool gristvalley_close(const uint8_t *book, size_t book_len, uint32_t choice, ui
 /* Asks about a span of a choice. TOLD: the side with the span out, and 1 where it holds all stations, else 0. */
 bool gristvalley_ask(const uint8_t *book, size_t book_len, uint32_t choice, uint32_t span, uint64_t *out, size_t out_len);
 
+/* Asks about a set of spans of a choice: bit i of `low` is for span i, and bit i of `high` for span 64 + i. TOLD: the side with all of them out, and 1 where it
+ * holds all stations, else 0. */
+bool gristvalley_ask_set(const uint8_t *book, size_t book_len, uint32_t choice, uint64_t low, uint64_t high, uint64_t *out, size_t out_len);
+
 /* Searches the choices of a book, at most `limit` of them. FOUND, NONE or MORE: choice, limit, the number of choices. */
 bool gristvalley_search(const uint8_t *book, size_t book_len, uint32_t limit, uint64_t *out, size_t out_len);
 

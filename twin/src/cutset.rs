@@ -39,18 +39,18 @@ pub fn crossing(plan: &Plan, side: u64) -> Vec<usize> {
         .collect()
 }
 
-/// The divisions whose whole cut set `span` carries; with no span, those with an empty cut set.
-pub fn parting(plan: &Plan, span: Option<usize>) -> Vec<u64> {
-    let carried = |number: usize| span.is_some_and(|span| plan.holds(number, span));
+/// The divisions whose whole cut set some spans carry; with no span, those with an empty cut set.
+pub fn parting(plan: &Plan, out: &[usize]) -> Vec<u64> {
+    let carried = |number: usize| out.iter().any(|&span| plan.holds(number, span));
     divisions(&plan.book.station_numbers())
         .into_iter()
         .filter(|&side| crossing(plan, side).into_iter().all(carried))
         .collect()
 }
 
-/// The side of a state: what every parting division keeps with the lowest station.
-pub fn side(plan: &Plan, span: Option<usize>) -> u64 {
-    parting(plan, span)
+/// The side with some spans out: what every parting division keeps with the lowest station.
+pub fn side(plan: &Plan, out: &[usize]) -> u64 {
+    parting(plan, out)
         .into_iter()
         .fold(plan.book.station_set(), |side, part| side & part)
 }
@@ -60,15 +60,15 @@ pub fn verdict(plan: &Plan) -> Verdict {
     if let Some(over) = over(plan) {
         return over;
     }
-    if !parting(plan, None).is_empty() {
-        let side = side(plan, None);
+    if !parting(plan, &[]).is_empty() {
+        let side = side(plan, &[]);
         return Verdict::Split { side };
     }
     (0..plan.book.spans.len())
-        .find(|&span| !parting(plan, Some(span)).is_empty())
+        .find(|&span| !parting(plan, &[span]).is_empty())
         .map_or(Verdict::Okay, |span| Verdict::Cut {
             span,
-            side: side(plan, Some(span)),
+            side: side(plan, &[span]),
         })
 }
 
@@ -76,7 +76,7 @@ pub fn verdict(plan: &Plan) -> Verdict {
 pub fn score(plan: &Plan) -> u32 {
     let mut pairs = 0;
     for span in 0..plan.book.spans.len() {
-        let parting = parting(plan, Some(span));
+        let parting = parting(plan, &[span]);
         for (rider, lightpath) in plan.book.lightpaths.iter().enumerate() {
             let parts = |side: &u64| (side >> lightpath.from ^ side >> lightpath.to) & 1 == 1;
             if plan.holds(rider, span) && parting.iter().any(parts) {

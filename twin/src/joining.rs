@@ -36,20 +36,20 @@ impl Pieces {
     }
 }
 
-/// The pieces with all lightpaths up, or with those off that ride the span that is out.
-pub fn pieces(plan: &Plan, out: Option<usize>) -> Pieces {
+/// The pieces with some spans out: those lightpaths are up that ride none of them.
+pub fn pieces(plan: &Plan, out: &[usize]) -> Pieces {
     let mut pieces = Pieces::apart(plan.book.stations.len());
     for (number, lightpath) in plan.book.lightpaths.iter().enumerate() {
         // Each lightpath goes down by its own route: a parallel one elsewhere stays up.
-        if !out.is_some_and(|span| plan.holds(number, span)) {
+        if !out.iter().any(|&span| plan.holds(number, span)) {
             pieces.join(usize::from(lightpath.from), usize::from(lightpath.to));
         }
     }
     pieces
 }
 
-/// The side of a state: the stations joined to the lowest station, bit i for node i.
-pub fn side(plan: &Plan, out: Option<usize>) -> u64 {
+/// The side with some spans out: the stations joined to the lowest station, bit i for node i.
+pub fn side(plan: &Plan, out: &[usize]) -> u64 {
     let pieces = pieces(plan, out);
     let stations = plan.book.station_numbers();
     let lowest = stations[0];

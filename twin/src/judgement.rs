@@ -1,6 +1,6 @@
-//! The judgement of one choice: verdict, score and the question about a span.
+//! The judgement of one choice: verdict, score and the questions about a span and about several.
 
-use crate::book::{Book, Refusal};
+use crate::book::{Book, Refusal, MOST_SPANS};
 use crate::joining;
 use crate::numbering::{check_choice, Plan};
 use crate::reading::read;
@@ -57,12 +57,12 @@ pub fn over(plan: &Plan) -> Option<Verdict> {
 /// SPLIT or CUT, by joining: the intact network first, then each span out in turn.
 fn parted(plan: &Plan) -> Option<Verdict> {
     let all = plan.book.station_set();
-    let side = joining::side(plan, None);
+    let side = joining::side(plan, &[]);
     if side != all {
         return Some(Verdict::Split { side });
     }
     (0..plan.book.spans.len()).find_map(|span| {
-        let side = joining::side(plan, Some(span));
+        let side = joining::side(plan, &[span]);
         (side != all).then_some(Verdict::Cut { span, side })
     })
 }
@@ -78,7 +78,7 @@ pub fn plan_score(plan: &Plan) -> (u32, u32) {
     let mut excess = 0;
     let loads = loads(plan);
     for (number, span) in plan.book.spans.iter().enumerate() {
-        let pieces = joining::pieces(plan, Some(number));
+        let pieces = joining::pieces(plan, &[number]);
         for (rider, lightpath) in plan.book.lightpaths.iter().enumerate() {
             let (from, to) = (usize::from(lightpath.from), usize::from(lightpath.to));
             if plan.holds(rider, number) && !pieces.joined(from, to) {
@@ -109,16 +109,42 @@ pub fn score(bytes: &[u8], choice: u32) -> Result<(u32, u32), Refusal> {
     Ok(plan_score(&Plan::new(&book, choice)))
 }
 
+/// What is refused of a question about a span that the book does not have.
+const NO_SUCH_SPAN: Refusal = Refusal {
+    number: 13,
+    place: 0,
+};
+
+/// The side with some spans of a book out, and whether it holds all stations.
+fn told(book: &Book, choice: u32, out: &[usize]) -> (u64, bool) {
+    let side = joining::side(&Plan::new(book, choice), out);
+    (side, side == book.station_set())
+}
+
 /// The question about one span: the side with it out, and whether that holds all stations.
 pub fn ask(bytes: &[u8], choice: u32, span: u32) -> Result<(u64, bool), Refusal> {
     let book = read_for_choice(bytes, choice)?;
     let span = span as usize;
     if span >= book.spans.len() {
-        return Err(Refusal {
-            number: 13,
-            place: 0,
-        });
+        return Err(NO_SUCH_SPAN);
     }
-    let side = joining::side(&Plan::new(&book, choice), Some(span));
-    Ok((side, side == book.station_set()))
+    Ok(told(&book, choice, &[span]))
+}
+
+/// The numbers of a set, rising: bit i of the first word is for i, bit i of the second for 64 + i.
+fn numbers(low: u64, high: u64) -> Vec<usize> {
+    (0..MOST_SPANS)
+        .filter(|number| [low, high][number / 64] >> (number % 64) & 1 == 1)
+        .collect()
+}
+
+/// The question about a set of spans: the side with all of them out, and whether that holds all
+/// stations.
+pub fn ask_set(bytes: &[u8], choice: u32, low: u64, high: u64) -> Result<(u64, bool), Refusal> {
+    let book = read_for_choice(bytes, choice)?;
+    let out = numbers(low, high);
+    if out.iter().any(|&number| number >= book.spans.len()) {
+        return Err(NO_SUCH_SPAN);
+    }
+    Ok(told(&book, choice, &out))
 }

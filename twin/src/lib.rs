@@ -14,7 +14,7 @@ pub mod generate;
 pub mod hex;
 /// Stations joined by chains of lightpaths.
 pub mod joining;
-/// The verdict, the score and the question about a span.
+/// The verdict, the score and the questions about spans.
 pub mod judgement;
 /// The numbering of choices.
 pub mod numbering;
@@ -31,7 +31,7 @@ pub mod writing;
 
 pub use book::{Book, Refusal};
 pub use contraction::{contract, Contracted};
-pub use judgement::{ask, judge, score, Verdict};
+pub use judgement::{ask, ask_set, judge, score, Verdict};
 pub use reading::read;
 pub use reporting::report;
 pub use searching::{search, Answer};

@@ -320,7 +320,7 @@ fn pieces_hold_together_with_any_span_out() {
         let fewer = book.station_numbers().len() - contracted.pieces.len();
         assert!(contracted.merges as usize <= fewer);
         for span in 0..book.spans.len() {
-            let joined = pieces(&plan, Some(span));
+            let joined = pieces(&plan, &[span]);
             for piece in &contracted.pieces {
                 let lowest = piece.trailing_zeros() as usize;
                 let within = |&station: &usize| piece >> station & 1 == 1;

@@ -19,11 +19,11 @@ fn joining_agrees_with_cut_sets() {
         let judged = verdict(&plan);
         assert_eq!(judged, cutset::verdict(&plan), "seed {seed}");
         assert_eq!(plan_score(&plan).0, cutset::score(&plan), "seed {seed}");
-        assert_eq!(side(&plan, None), cutset::side(&plan, None));
+        assert_eq!(side(&plan, &[]), cutset::side(&plan, &[]));
         for span in 0..book.spans.len() {
             let asked = ask(&encode(&book), choice, span as u32).unwrap();
-            assert_eq!(asked.0, cutset::side(&plan, Some(span)));
-            assert_eq!(asked.1, cutset::parting(&plan, Some(span)).is_empty());
+            assert_eq!(asked.0, cutset::side(&plan, &[span]));
+            assert_eq!(asked.1, cutset::parting(&plan, &[span]).is_empty());
         }
         kinds[match judged {
             Verdict::Over { .. } => 0,
@@ -44,8 +44,8 @@ fn score_and_verdict_agree() {
         assert!(parting <= 1536 && excess <= 1536);
         let judged = verdict(&plan);
         assert_eq!(matches!(judged, Verdict::Over { .. }), excess > 0);
-        let joined = side(&plan, None) == book.station_set();
-        let all = |span| side(&plan, Some(span)) == book.station_set();
+        let joined = side(&plan, &[]) == book.station_set();
+        let all = |span| side(&plan, &[span]) == book.station_set();
         if joined {
             assert_eq!(parting == 0, (0..book.spans.len()).all(all));
         }

@@ -107,7 +107,7 @@ fn passes_through(plan: &Plan) -> bool {
 fn site_names(plan: &Plan) -> Vec<&'static str> {
     let stations = plan.book.station_numbers();
     let many = stations.len() >= 3;
-    let joined = joining::side(plan, None) == plan.book.station_set();
+    let joined = joining::side(plan, &[]) == plan.book.station_set();
     let acceptable = verdict(plan) == Verdict::Okay;
     let told = match plan_site(plan) {
         Site::Okay => vec![

@@ -297,9 +297,9 @@ fn three_stations_that_can_close_any_site_can_open_any_span() {
             _ => panic!("seed {seed}: {judged:?}"),
         }
         // OVER hides nothing here: with any span out all are joined, so no pair is at fault.
-        let spans = (0..book.spans.len()).map(Some);
-        for out in spans.chain([None]) {
-            let joined = joining::side(&plan, out);
+        let spans = (0..book.spans.len()).map(|span| vec![span]);
+        for out in spans.chain([vec![]]) {
+            let joined = joining::side(&plan, &out);
             assert_eq!(joined, book.station_set(), "seed {seed} {out:?}");
         }
         assert_eq!(plan_score(&plan).0, 0, "seed {seed}");

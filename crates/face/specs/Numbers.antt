@@ -78,7 +78,7 @@ closedRow a =
     let n = closedNumbers a in
     closedKind a ∷ n .number ∷ n .place ∷ n .node ∷ n .side ∷ 0 ∷ 0 ∷ 0 ∷ 0 ∷ []
 
--- F8: the question about a span
+-- F8, F13: the question about a span, and about a set of spans
 abbrev pub askedKind : Asked → ℕ
 askedKind (asked.Told d t) = 1
 askedKind (asked.Refused k p) = 0

@@ -7,7 +7,7 @@ ghost use mathlib.Core.Path.{_≡_};
 ghost use lib.ListN.{length};
 ghost use Rattle.book.specs.Format.{reading};
 ghost use Rattle.book.specs.Writing.{chosenOf, writing, writtenOf, buffer};
-ghost use Rattle.judgement.specs.Answers.{judgedOf, askedOf};
+ghost use Rattle.judgement.specs.Answers.{judgedOf, askedOf, askedSetOf};
 ghost use Rattle.judgement.specs.Contraction.{contractedOf};
 ghost use Rattle.judgement.specs.Sites.{closedOf};
 ghost use Rattle.search.specs.Answers.{searchedOf};
@@ -61,6 +61,22 @@ pub extern "C" fn gristvalley_ask(s: &[u8], n: u32, x: u32, out: &mut [u64]) -> 
     ensures { λ r. ⌜ (r ≡ roomy (now (out .entry))) × (now (out .exit) ≡ stored (askedRow (askedOf (chosenOf (reading (now (s .entry))) n) x)) (now (out .entry))) ⌝ }
 {
     let answer = judgement::ask(s, n, x);
+    let row = numbers::asked_row(answer);
+    store(out, row)
+}
+
+// Asks about a set of spans in choice n of a book: bit i of `low` is for span i, and bit i of `high` for span 64 + i.
+#[no_mangle]
+pub extern "C" fn gristvalley_ask_set(
+    s: &[u8],
+    n: u32,
+    low: u64,
+    high: u64,
+    out: &mut [u64],
+) -> bool
+    ensures { λ r. ⌜ (r ≡ roomy (now (out .entry))) × (now (out .exit) ≡ stored (askedRow (askedSetOf (chosenOf (reading (now (s .entry))) n) low high)) (now (out .entry))) ⌝ }
+{
+    let answer = judgement::ask_set(s, n, low, high);
     let row = numbers::asked_row(answer);
     store(out, row)
 }

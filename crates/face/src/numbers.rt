@@ -109,7 +109,7 @@ pub(crate) fn closed_row(answer: Closed) -> [u64; 9]
     }
 }
 
-// The answer of `ask`.
+// The answer of `ask` and of `ask_set`.
 pub(crate) fn asked_row(answer: Asked) -> [u64; 9]
     ensures { λ r. ⌜ r ≡ askedRow answer ⌝ }
 {

@@ -3,11 +3,12 @@
 //     JUDGE n VERDICT                the verdict that `judge` answers: OVER span load limit, SPLIT side, CUT span side, or OK
 //     SCORE n F Fc                   the score that `judge` answers
 //     SITE n OK or DOWN node side    what `close` answers
+//     CONTRACT n VERDICT merges      what `contract` answers: the verdict as above, and how many merges it took
 //     ASK n x side whole             what `ask` answers of span x, for all spans, or four where they are more than six; whole is 1 or 0
 //     ASK n x BAD 13 0               and of the number after the last span
 //
-// and then a JUDGE, a SCORE, a SITE and an ASK with number T. A refused book prints these four with numbers 0 and 4294967295. A refusal is printed as
-// `BAD number place`, and a side in decimal.
+// and then a JUDGE, a SCORE, a SITE, a CONTRACT and an ASK with number T. A refused book prints these five with numbers 0 and 4294967295. A refusal is
+// printed as `BAD number place`, and a side in decimal.
 use crate::say::number;
 use crate::say::print_refusal;
 use crate::say::word;
@@ -15,6 +16,7 @@ use book::Answer;
 use book::choice::Movables;
 use judgement::Asked;
 use judgement::Closed;
+use judgement::Contracted;
 use judgement::Judged;
 use judgement::Site;
 use judgement::Verdict;
@@ -31,8 +33,8 @@ fn end_refused(no: u8, place: usize) {
     word(b"\n");
 }
 
-// Ends a line with a verdict.
-fn end_verdict(v: Verdict) {
+// Prints a verdict.
+fn print_verdict(v: Verdict) {
     match v {
         Verdict::Over(x, l, w) => {
             word(b" OVER");
@@ -51,7 +53,6 @@ fn end_verdict(v: Verdict) {
         }
         Verdict::Okay => word(b" OK"),
     }
-    word(b"\n");
 }
 
 // Starts a line about choice `n`.
@@ -66,7 +67,8 @@ fn print_judge(s: &[u8], n: u32) {
     start_line(b"JUDGE", n);
     match j {
         Judged::Told(v, f, fc) => {
-            end_verdict(v);
+            print_verdict(v);
+            word(b"\n");
             start_line(b"SCORE", n);
             number(f as u64);
             number(fc as u64);
@@ -100,6 +102,20 @@ fn print_site(s: &[u8], n: u32) {
     match j {
         Closed::Told(a) => end_site(a),
         Closed::Refused(no, place) => end_refused(no, place),
+    }
+}
+
+// Prints the line for the verdict on choice `n` by contraction.
+fn print_contract(s: &[u8], n: u32) {
+    let j = judgement::contract(s, n);
+    start_line(b"CONTRACT", n);
+    match j {
+        Contracted::Told(v, merges) => {
+            print_verdict(v);
+            number(merges as u64);
+            word(b"\n");
+        }
+        Contracted::Refused(no, place) => end_refused(no, place),
     }
 }
 
@@ -137,6 +153,7 @@ fn print_asks(s: &[u8], n: u32, spans: u32) {
 fn print_choice(s: &[u8], n: u32, spans: u32) {
     print_judge(s, n);
     print_site(s, n);
+    print_contract(s, n);
     print_asks(s, n, spans);
 }
 
@@ -157,10 +174,11 @@ fn print_choices(s: &[u8], t: u32, spans: u32) {
     }
 }
 
-// Prints the four lines that are refused for number `n`.
+// Prints the five lines that are refused for number `n`.
 fn print_refused(s: &[u8], n: u32, x: u32) {
     print_judge(s, n);
     print_site(s, n);
+    print_contract(s, n);
     print_ask(s, n, x);
 }
 

@@ -32,6 +32,15 @@ mod linked {
             out: *mut u64,
             room: usize,
         ) -> bool;
+        pub fn gristvalley_ask_set(
+            book: *const u8,
+            len: usize,
+            choice: u32,
+            low: u64,
+            high: u64,
+            out: *mut u64,
+            room: usize,
+        ) -> bool;
         pub fn gristvalley_search(
             book: *const u8,
             len: usize,
@@ -106,6 +115,21 @@ pub fn ask(book: &[u8], choice: u32, span: u32, out: &mut [u64]) -> bool {
             book.len(),
             choice,
             span,
+            out.as_mut_ptr(),
+            out.len(),
+        )
+    }
+}
+
+/// Asks about a set of spans of a choice: bit i of `low` is for span i, and bit i of `high` for span 64 + i.
+pub fn ask_set(book: &[u8], choice: u32, low: u64, high: u64, out: &mut [u64]) -> bool {
+    unsafe {
+        linked::gristvalley_ask_set(
+            book.as_ptr(),
+            book.len(),
+            choice,
+            low,
+            high,
             out.as_mut_ptr(),
             out.len(),
         )

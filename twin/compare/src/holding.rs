@@ -3,6 +3,8 @@
 use crate::face;
 use crate::wanted::{self, Nine};
 use std::collections::BTreeMap;
+use std::fmt::Debug;
+use twin::book::MOST_SPANS;
 use twin::generate::{numbers, Random};
 use twin::numbering::total;
 use twin::searching::{search_book, Answer};
@@ -52,7 +54,7 @@ impl Holding<'_> {
     fn same(
         &mut self,
         name: &'static str,
-        input: &[u32],
+        input: &dyn Debug,
         wanted: Nine,
         call: impl FnOnce(&[u8], &mut [u64]) -> bool,
     ) {
@@ -137,6 +139,48 @@ impl Holding<'_> {
         }
     }
 
+    /// Draws a set of spans, as two words: of none, one, a few or up to half of them, and at times with a number that is not below the count.
+    fn set(&mut self) -> (u64, u64) {
+        let book = self.read.as_ref();
+        let spans = book.map_or(MOST_SPANS, |book| book.spans.len());
+        let many = match self.random.below(6) {
+            0 => 0,
+            1 => 1,
+            2..=4 => self.random.between(2, 5),
+            _ => self.random.below(2 + spans / 2),
+        };
+        let mut set: u128 = 0;
+        for _ in 0..many.min(spans) {
+            set |= 1 << self.random.below(spans);
+        }
+        if spans < MOST_SPANS && self.random.chance(15) {
+            let beyond = self.random.between(spans, MOST_SPANS - 1);
+            set |= 1 << *self.random.pick(&[spans, beyond]);
+        }
+        (set as u64, (set >> 64) as u64)
+    }
+
+    /// Counts what a set comes to: all stations joined, some parted, and any answer about spans of both words.
+    fn count_set(&mut self, answer: &Result<(u64, bool), Refusal>, low: u64, high: u64) {
+        let Ok((_, whole)) = answer else { return };
+        let told = if *whole { 1 } else { 2 };
+        *self.counts.entry(("sets", told, 0)).or_default() += 1;
+        if low != 0 && high != 0 {
+            *self.counts.entry(("sets", 3, 0)).or_default() += 1;
+        }
+    }
+
+    /// Asks about a set of spans in a choice.
+    fn asked_set(&mut self, choice: u32) {
+        let (low, high) = self.set();
+        let asked = twin::ask_set(self.bytes, choice, low, high);
+        self.count_set(&asked, low, high);
+        let asked = wanted::asked(asked);
+        self.same("ask_set", &(choice, low, high), asked, |s, out| {
+            face::ask_set(s, choice, low, high, out)
+        });
+    }
+
     /// Judges a choice in every way: with spans out, by contraction, and with nodes closed.
     fn judged(&mut self, choice: u32) {
         let judged = wanted::judged(judged(self.bytes, choice));
@@ -162,7 +206,7 @@ impl Holding<'_> {
     /// Every operation.
     fn all(&mut self) {
         let read = wanted::read(self.read.as_ref().map_err(|refusal| *refusal));
-        self.same("read", &[], read, face::read);
+        self.same("read", &(), read, face::read);
         let (choices, spans, limits) = self.drawn();
         for &choice in &choices {
             self.judged(choice);
@@ -181,6 +225,9 @@ impl Holding<'_> {
             self.same("search", &[limit], searched, |s, out| {
                 face::search(s, limit, out)
             });
+        }
+        for &choice in &choices {
+            self.asked_set(choice);
         }
     }
 

@@ -42,6 +42,7 @@ fn kind_name(operation: &str, kind: u64, number: u64) -> String {
         ("pieces", 1..=3) => {
             ["as they were", "merged", "left though OK"][kind as usize - 1].to_string()
         }
+        ("sets", 1..=3) => ["joined", "parted", "of both words"][kind as usize - 1].to_string(),
         ("close", 1..=2) => ["DOWN", "OK"][kind as usize - 1].to_string(),
         ("search", 1..=3) => ["FOUND", "NONE", "MORE"][kind as usize - 1].to_string(),
         _ => "told".to_string(),
@@ -72,15 +73,17 @@ fn save(folder: &Path, name: &str, bytes: &[u8], differences: &[String]) -> io::
     )
 }
 
-/// The kinds of answer that an operation has: how many are told, and the numbers of its own refusals beside those of a book. What contraction comes to is
-/// counted besides, and is never refused.
-const KINDS: [(&str, u64, Option<&[u64]>); 8] = [
+/// The kinds of answer that an operation has: how many are told, and the numbers of its own refusals beside those of a book. What contraction and sets of
+/// spans come to is counted besides, and is never refused.
+const KINDS: [(&str, u64, Option<&[u64]>); 10] = [
     ("read", 1, Some(&[])),
     ("judge", 4, Some(&[12])),
     ("contract", 4, Some(&[12])),
     ("pieces", 3, None),
     ("close", 2, Some(&[12])),
     ("ask", 1, Some(&[12, 13])),
+    ("ask_set", 1, Some(&[12, 13])),
+    ("sets", 3, None),
     ("search", 3, Some(&[])),
     ("write", 1, Some(&[11, 12])),
 ];

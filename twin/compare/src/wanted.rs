@@ -72,7 +72,7 @@ pub fn closed(answer: Result<Site, Refusal>) -> Nine {
     })
 }
 
-/// What the question about a span tells.
+/// What the question about a span or a set of them tells.
 pub fn asked(answer: Result<(u64, bool), Refusal>) -> Nine {
     nine(answer, |(side, all)| {
         (1, [side, u64::from(all), 0, 0, 0, 0])
