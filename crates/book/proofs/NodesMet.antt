@@ -1,12 +1,13 @@
--- THE NODES THAT A ROUTE MEETS: the walk of a route begins at one and ends at one, and a span of the route has both its ends among them.
+-- THE NODES THAT A ROUTE MEETS: the walk of a route begins at one and ends at one, and the others are just the ends of its spans.
 -- So whatever rides a span meets both ends of that span, and whatever ends at a node meets that node.
 use Prim.Native.Nat.{ℕ}
 use mathlib.Core.Path.{_≡_, refl, sym, subst}
 use mathlib.Core.List.{List, [], _∷_}
+use mathlib.Core.Logic.{_⊎_, inl, inr}
 use mathlib.Core.Bool.{Bool, true, false, cond, _||_, false≢true}
 use lib.ListN.{length}
 use lib.Dec.{eqb}
-use borrow.Author.Tests.{eqb-true}
+use borrow.Author.Tests.{eqb-true, eq-eqb}
 use Rattle.book.specs.Book.{Span, Ends, Route, among, below, lengthFits, spanAt, touches, far, walks, metOn, routeFits}
 use Rattle.book.proofs.Tests.{and-inv}
 use Rattle.book.proofs.Once.{among-more, among-first, step}
@@ -67,6 +68,43 @@ module _ (sps : List Span) where
       go : BothMet y (p ∷ rest) → (among x ys ≡ true → BothMet x rest) → (u : Bool) → eqb x y ≡ u → (u || among x ys) ≡ true → BothMet x (p ∷ rest)
       go now ih true e k = subst (λ (z : ℕ). BothMet z (p ∷ rest)) (sym (eqb-true x y e)) now
       go now ih false e k = let z = ih k in (among-more (spanAt sps x .left) p rest (z .0), among-more (spanAt sps x .right) p rest (z .1))
+
+  -- and no others
+  pub record IsEnd (v : ℕ) (r : List ℕ) : Type 0 where
+    pub span : ℕ
+    pub on-route : among span r ≡ true
+    pub ends-there : touches (spanAt sps span) v ≡ true
+
+  far-touches : (s : Span) (p : ℕ) → touches s (far s p) ≡ true
+  far-touches s p = go (eqb (s .left) p)
+    where
+      or-true : (a : Bool) → (a || true) ≡ true
+      or-true true = refl
+      or-true false = refl
+
+      go : (u : Bool) → touches s (cond u (s .right) (s .left)) ≡ true
+      go true = rw (eq-eqb (s .right) (s .right) refl) (or-true (eqb (s .left) (s .right)))
+      go false = rw (eq-eqb (s .left) (s .left) refl)
+
+  pub met-only : (v p : ℕ) (r : List ℕ) → among v (metOn sps p r) ≡ true → (v ≡ p) ⊎ IsEnd v r
+  unfolding metOn
+  met-only v p [] h = go (eqb v p) refl h
+    where
+      go : (u : Bool) → eqb v p ≡ u → (u || false) ≡ true → (v ≡ p) ⊎ IsEnd v []
+      go true e k = inl (eqb-true v p e)
+      go false e k = absurd (false≢true k)
+  met-only v p (x ∷ xs) h = go (eqb v p) refl (met-only v (far (spanAt sps x) p) xs) h
+    where
+      q : ℕ
+      q = far (spanAt sps x) p
+
+      later : (v ≡ q) ⊎ IsEnd v xs → (v ≡ p) ⊎ IsEnd v (x ∷ xs)
+      later (inl e) = inr (record { span = x; on-route = among-first x x xs refl; ends-there = subst (λ (n : ℕ). touches (spanAt sps x) n ≡ true) (sym e) (far-touches (spanAt sps x) p) })
+      later (inr y) = inr (record { span = y .span; on-route = among-more (y .span) x xs (y .on-route); ends-there = y .ends-there })
+
+      go : (u : Bool) → eqb v p ≡ u → (among v (metOn sps q xs) ≡ true → (v ≡ q) ⊎ IsEnd v xs) → (u || among v (metOn sps q xs)) ≡ true → (v ≡ p) ⊎ IsEnd v (x ∷ xs)
+      go true e ih k = inl (eqb-true v p e)
+      go false e ih k = later (ih k)
 
   -- THE LAWS, of a route that fits
   module _ (e : Ends) (r : Route) (h : routeFits sps e r ≡ true) where

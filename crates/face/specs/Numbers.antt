@@ -12,7 +12,7 @@ use Rattle.book.specs.declared.Answer.{Answer}
 use Rattle.book.specs.declared.Answer.the-variants as answer
 use Rattle.book.specs.declared.write.Written.{Written}
 use Rattle.book.specs.declared.write.Written.the-variants as written
-use Rattle.judgement.specs.Answers.{askedNumbers}
+use Rattle.judgement.specs.Answers.{judgedNumbers, askedNumbers}
 use Rattle.judgement.specs.Sites.{closedNumbers}
 use Rattle.judgement.specs.declared.Verdict.{Verdict}
 use Rattle.judgement.specs.declared.Verdict.the-variants.{Over, Split, Cut, Okay}
@@ -51,11 +51,16 @@ abbrev pub readRow : Reading → List ℕ
 readRow g = replyRow (shown g .answer) (shown g .book)
 
 -- F6: the verdict: span, load, limit and side, and two numbers behind them
+abbrev pub verdictKind : Verdict → ℕ
+verdictKind (Over x l w) = 1
+verdictKind (Split d) = 2
+verdictKind (Cut x d) = 3
+verdictKind Okay = 4
+
 abbrev pub verdictRow : Verdict → ℕ → ℕ → List ℕ
-verdictRow (Over x l w) a b = 1 ∷ 0 ∷ 0 ∷ x ∷ l ∷ w ∷ 0 ∷ a ∷ b ∷ []
-verdictRow (Split d) a b = 2 ∷ 0 ∷ 0 ∷ 0 ∷ 0 ∷ 0 ∷ d ∷ a ∷ b ∷ []
-verdictRow (Cut x d) a b = 3 ∷ 0 ∷ 0 ∷ x ∷ 0 ∷ 0 ∷ d ∷ a ∷ b ∷ []
-verdictRow Okay a b = 4 ∷ 0 ∷ 0 ∷ 0 ∷ 0 ∷ 0 ∷ 0 ∷ a ∷ b ∷ []
+verdictRow v a b =
+    let n = judgedNumbers (judged.Told v a b) in
+    verdictKind v ∷ n .number ∷ n .place ∷ n .span ∷ n .load ∷ n .limit ∷ n .side ∷ n .f ∷ n .fc ∷ []
 
 -- F6, F7: the verdict and the score
 abbrev pub judgedRow : Judged → List ℕ

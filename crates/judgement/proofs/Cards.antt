@@ -66,7 +66,7 @@ pub P7 : judgedOf (chosenOf (reading (alone 1)) 0) ≡ judged.Told Okay 0 0
 unfolding reading book each opened below some count different walks lengthFits spanEnds lightpathEnds follows bit has put stationsInto padded movableFrom product digits digitFor alternativesOf rerouted brought grown swept settled sideOf sum firstOf trailingZeros
 P7 = refl
 
-pub P8 : (judgedOf (chosenOf (reading (alone 2)) 0) ≡ judged.Told (Split 1) 0 0)
+pub P8 : judgedOf (chosenOf (reading (alone 2)) 0) ≡ judged.Told (Split 1) 0 0
 unfolding reading book each opened below some count different walks lengthFits spanEnds lightpathEnds follows bit has put stationsInto padded movableFrom product digits digitFor alternativesOf rerouted brought grown swept settled sideOf sum firstOf trailingZeros
 P8 = refl
 

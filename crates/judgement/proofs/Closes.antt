@@ -24,10 +24,10 @@ use Rattle.judgement.specs.declared.Judged.{Judged}
 use Rattle.judgement.specs.declared.Judged.the-variants as judged
 use Rattle.judgement.specs.Judgement.{verdict}
 use Rattle.judgement.specs.Answers.{judgedOf}
-use Rattle.judgement.specs.Sites.{siteOf, SiteGiven, Three, closedOf, closedNumbers}
+use Rattle.judgement.specs.Sites.{siteOf, SiteGiven, Three, closedOf, closedNumbers, OkayOrOver}
 use Rattle.judgement.proofs.Opened.{fits-all, told-good}
 use Rattle.judgement.proofs.Sites.{site-given, site-only}
-use Rattle.judgement.proofs.Standing.{OkayOrOver, site-verdict}
+use Rattle.judgement.proofs.Standing.{site-verdict}
 
 -- the bytes s are a well-formed book, n is the number of one of its choices, and the site is given of the chosen book
 pub record Closes (x : Site) (s : List ℕ) (n : ℕ) : Type 0 where

@@ -18,7 +18,7 @@ use Rattle.book.proofs.ChoiceRead.{ChoiceIs, such, no-such, choice-is}
 use Rattle.judgement.specs.declared.Verdict.the-variants.{Okay}
 use Rattle.judgement.specs.declared.Judged.{Judged}
 use Rattle.judgement.specs.declared.Judged.the-variants.{Told}
-use Rattle.judgement.specs.Judgement.{verdict, scoreF, scoreFc}
+use Rattle.judgement.specs.Judgement.{verdict}
 use Rattle.judgement.specs.Cuts.{Survives, CutForm}
 use Rattle.judgement.specs.Meaning.{NoneOver}
 use Rattle.judgement.specs.Answers.{judgedOf}
@@ -36,8 +36,8 @@ pub record Meets (Form : RouteBook → Type 0) (s : List ℕ) (n : ℕ) : Type 0
   pub survives : Form (chosen book n)
 
 -- OK comes with scores of nought
-told-noughts : (m : RouteBook) → wellFormed m ≡ true → verdict m ≡ Okay → Told (verdict m) (scoreF m) (scoreFc m) ≡ Told Okay 0 0
-told-noughts m fits e = let z = okay-scores m fits e in rw (e, z .0, z .1)
+pub okay-noughts : (m : RouteBook) → wellFormed m ≡ true → verdict m ≡ Okay → judgedOf (good m) ≡ Told Okay 0 0
+okay-noughts m fits e = let z = okay-scores m fits e in rw (e, z .0, z .1)
 
 module _ (s : List ℕ) (n : ℕ) where
   -- one form for another, where they say the same of every well-formed book
@@ -68,7 +68,15 @@ module _ (s : List ℕ) (n : ℕ) where
             let m = d .book in
             let reads : reading s ≡ good m = subst (λ (b : List ℕ). reading b ≡ good m) (d .written) (reading-back m (d .fits)) in
             met ∙ ap (λ (g : Reading). judgedOf (chosenOf g n)) reads ∙ ap judgedOf (such-a-choice m n (d .below))
-            ∙ told-noughts (chosen m n) (choice-fits m n (d .fits)) (okay-exact (chosen m n) (choice-fits m n (d .fits)) .1 (d .none-over, d .survives))
+            ∙ okay-noughts (chosen m n) (choice-fits m n (d .fits)) (okay-exact (chosen m n) (choice-fits m n (d .fits)) .1 (d .none-over, d .survives))
+
+    -- no OK is left out: it never comes with another score
+    pub okay-always : {f c : ℕ} → r ≡ Told Okay f c → r ≡ Told Okay 0 0
+    okay-always {f} {c} e = met ∙ go (choice-is s n) (sym met ∙ e)
+      where
+        go : {g : Reading} → ChoiceIs s n g → judgedOf g ≡ Told Okay f c → judgedOf g ≡ Told Okay 0 0
+        go (such m q l) w = let okay : verdict (chosen m n) ≡ Okay = cc in okay-noughts (chosen m n) (choice-fits m n (reading-only s m h q .1)) okay
+        go (no-such x) w = let z : _≡_ {A = ℕ} 0 1 = cc in absurd (omega arith)
 
     pub okay-means : (r ≡ Told Okay 0 0) ↔ Meets CutForm s n
     okay-means = Iff·trans okay-joined (in-form (λ c w. same-forms c w .0), in-form (λ c w. same-forms c w .1))

@@ -155,8 +155,8 @@ module _ {b : Book} (h : Held b) where
   pub held-nodes : b .nodes ≤ 64
   held-nodes = rw (h .is) (counts (h .book) (h .fits) .0)
 
-  pub held-ends : EndsLow (b .left) (b .right)
-  held-ends = rw (h .is) (ends-low (h .book) (h .fits))
+  pub held-span-ends : EndsLow (b .left) (b .right)
+  held-span-ends = rw (h .is) (ends-low (h .book) (h .fits))
 
   module _ (k : ℕ) (l : k < b .lightpaths) where
     here : k < length (h .book .lightpaths)

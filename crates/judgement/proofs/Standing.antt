@@ -21,7 +21,7 @@ use Rattle.judgement.specs.Judgement.{rides, network, without, allUp, st
 use Rattle.judgement.specs.Cuts.{AllJoined, Survives}
 use Rattle.judgement.specs.Meaning.{NoneOver, IsCut}
 use Rattle.judgement.specs.Withdrawn.{NoLess}
-use Rattle.judgement.specs.Sites.{meets, spared, stands, siteOf, IsOther, OthersJoined, IsDown, Three}
+use Rattle.judgement.specs.Sites.{meets, spared, stands, siteOf, IsOther, OthersJoined, IsDown, Three, OkayOrOver, is-okay, is-over}
 use Rattle.judgement.specs.declared.Site.the-variants.{Okay}
 use Rattle.judgement.specs.declared.Verdict.{Verdict}
 use Rattle.judgement.specs.declared.Verdict.the-variants.{Over, Split, Cut}
@@ -33,11 +33,6 @@ use Rattle.judgement.proofs.Loads.{route-fits}
 use Rattle.judgement.proofs.Verdicts.{split-exact, cut-exact, acceptable-joined}
 use Rattle.judgement.proofs.Withdrawn.{not-less, joined-stays}
 use Rattle.judgement.proofs.Sites.{stands-joined, site-okay}
-
--- a verdict that is OK or OVER
-pub data OkayOrOver : Verdict → Type 0 where
-  is-okay : OkayOrOver kind.Okay
-  is-over : (x l w : ℕ) → OkayOrOver (Over x l w)
 
 -- more is up with all nodes open
 module _ (m : RouteBook) where

@@ -8,6 +8,7 @@ use lib.Dec.{eqb}
 use lib.ListN.{length, getD, take, drop}
 use lib.Count.{trailingZeros}
 use Rattle.book.specs.declared.Book.{Book}
+use Rattle.book.specs.Book.{mostNodes, longestRoute}
 use Rattle.book.specs.Bits.{has, put}
 use Rattle.judgement.specs.Network.{sideOf}
 use Rattle.judgement.specs.Judgement.{firstOf}
@@ -17,8 +18,8 @@ use Rattle.judgement.specs.declared.Site.the-variants.{Down, Okay}
 
 -- the ends of the spans stand in two arrays, and are numbers below 64
 pub record EndsLow (left right : List ℕ) : Type 0 where
-  pub left-low : (x : ℕ) → getD left x 0 < 64
-  pub right-low : (x : ℕ) → getD right x 0 < 64
+  pub left-low : (x : ℕ) → getD left x 0 < mostNodes
+  pub right-low : (x : ℕ) → getD right x 0 < mostNodes
 
 -- where span x leads from the node p, and a set with all nodes that a route meets from p on
 abbrev pub otherEnd : List ℕ → List ℕ → ℕ → ℕ → ℕ
@@ -30,7 +31,7 @@ metIn left right met p (x ∷ xs) = metIn left right (put met p) (otherEnd left 
 
 -- the route of lightpath k stands at the start of row k; the nodes that it meets
 abbrev pub routeIn : Book → ℕ → List ℕ
-routeIn b k = take (getD (b .len) k 0) (drop (16 * k) (b .route))
+routeIn b k = take (getD (b .len) k 0) (drop (longestRoute * k) (b .route))
 
 abbrev pub metOf : Book → ℕ → ℕ
 metOf b k = metIn (b .left) (b .right) 0 (getD (b .from) k 0) (routeIn b k)
@@ -47,7 +48,7 @@ leftIn all v = cond (has all v) (bitXor all (put 0 v)) all
 -- with node v closed: the side by the words, that of a book, and the answer that names the lowest node at which it lacks a station that is left
 abbrev pub sideLeftIn : ℕ → ℕ → List ℕ → List ℕ → List ℕ → ℕ → ℕ
 sideLeftIn all n from to words v =
-    let d = sideOf (netOf n from to) (unset words v) 64 (trailingZeros 64 (leftIn all v)) in
+    let d = sideOf (netOf n from to) (unset words v) mostNodes (trailingZeros mostNodes (leftIn all v)) in
     cond (eqb (leftIn all v) 0) 0 d
 
 abbrev pub sideLeftBy : Book → List ℕ → ℕ → ℕ

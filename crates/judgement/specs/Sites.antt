@@ -13,6 +13,8 @@ use Rattle.book.specs.Format.{Reading, good, refused}
 use Rattle.judgement.specs.Network.{Joined, sideOf}
 use Rattle.judgement.specs.Judgement.{network, stations, firstOf}
 use Rattle.judgement.specs.Meaning.{Least}
+use Rattle.judgement.specs.declared.Verdict.{Verdict}
+use Rattle.judgement.specs.declared.Verdict.the-variants as verdict
 use Rattle.judgement.specs.declared.Site.{Site}
 use Rattle.judgement.specs.declared.Site.the-variants.{Down, Okay}
 use Rattle.judgement.specs.declared.Closed.{Closed}
@@ -82,6 +84,11 @@ module _ (m : RouteBook) where
     pub a-b : a ≡ b → ⊥
     pub a-c : a ≡ c → ⊥
     pub b-c : b ≡ c → ⊥
+
+-- the verdicts that are left where three stations stand whichever node is closed
+pub data OkayOrOver : Verdict → Type 0 where
+  is-okay : OkayOrOver verdict.Okay
+  is-over : (x l w : ℕ) → OkayOrOver (verdict.Over x l w)
 
 -- D8: what the operation answers
 abbrev pub closedOf : Reading → Closed

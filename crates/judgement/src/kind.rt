@@ -1,4 +1,4 @@
-// The verdict on a book as it stands, and so on the book that a choice makes.
+// The verdict alone on a book as it stands, and so on the book that a choice makes: for the search, and for contraction. `walk.rt` has it with the score.
 use crate::Verdict;
 use crate::load;
 use crate::load::Overload;

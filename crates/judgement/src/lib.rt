@@ -1,4 +1,5 @@
-// The judgement of a choice of routes: loads, sides, the verdict, the question about a span, and the score. docs/JUDGEMENT.md says what each is.
+// The judgement of a choice of routes: loads, sides, the verdict with its score, and the questions about spans. docs/JUDGEMENT.md says what each is, and
+// docs/SITES.md what closing a node answers.
 // The second engine judges by contraction, which docs/CONTRACTION.md tells.
 pub mod kind;
 mod load;

@@ -9,7 +9,7 @@ ghost use Rattle.book.specs.Bits.{has, put};
 ghost use Rattle.judgement.specs.Network.{Network, sideOf};
 ghost use Rattle.judgement.specs.Inside.{netOf, upOf, Fits, noted, Led, LedBySome, growth, nextIn, tookIn, upTable, unset, size};
 
-// A set of numbers below 64, those of the nodes; the same word serves for the spans of a route.
+// A set of numbers below 64, those of the nodes; the same word serves for the spans of a route, and for the nodes that it meets.
 pub(crate) struct Side {
     pub mask: u64,
 }
@@ -193,7 +193,7 @@ pub(crate) fn side_of<'a>(
     grow(start, &rows)
 }
 
-// Which of the first n lightpaths are up without a span: those whose word, a set of spans, has not the span's bit.
+// Which of the first n lightpaths are up without a span, or with a node closed: those whose word, a set of spans or of nodes, has not its bit.
 pub(crate) fn up_without(words: &[u64; 152], bit: u8, n: usize) -> [bool; 96]
     requires { ⌜ (length (now words) ≡ 152) × (bit < 64) × (n ≤ 96) ⌝ }
     ensures { λ r. ⌜ r ≡ upTable (unset (now (words .entry)) bit) n ⌝ }
@@ -222,7 +222,7 @@ pub(crate) fn all_up(n: usize) -> [bool; 96]
     up
 }
 
-// The side of a node without a span, which is the bit of the lightpaths' words.
+// The side of a node without a span, or with another node closed, which is the bit of the lightpaths' words.
 pub(crate) fn side_without<'a>(
     start: u8,
     from: &'a [u8; 96],

@@ -15,7 +15,6 @@ use Rattle.book.proofs.Readers.{Bytes}
 use Rattle.book.proofs.Format.{reading-back, reading-only}
 use Rattle.book.proofs.Chosen.{choice-fits}
 use Rattle.book.proofs.Written.{such-a-choice, no-such-choice}
-use Rattle.book.proofs.ChoiceRead.{ChoiceIs, such, no-such, choice-is}
 use Rattle.judgement.specs.declared.Verdict.the-variants.{Okay}
 use Rattle.judgement.specs.declared.Judged.{Judged}
 use Rattle.judgement.specs.declared.Judged.the-variants as judged
@@ -23,8 +22,7 @@ use Rattle.judgement.specs.Judgement.{verdict, isOkay, acceptable}
 use Rattle.judgement.specs.Cuts.{Survives, CutForm}
 use Rattle.judgement.specs.Answers.{judgedOf}
 use Rattle.judgement.proofs.Verdicts.{okay-only}
-use Rattle.judgement.proofs.Scores.{okay-scores}
-use Rattle.judgement.proofs.Demand.{Meets, okay-joined, okay-means}
+use Rattle.judgement.proofs.Demand.{Meets, okay-noughts, okay-joined, okay-means}
 use Rattle.search.specs.declared.Finding.{Finding}
 use Rattle.search.specs.declared.Finding.the-variants.{Found, None, More}
 use Rattle.search.specs.declared.Searched.{Searched}
@@ -51,30 +49,13 @@ module _ (s : List ℕ) where
     pub written : encode book ≡ s
     pub is : t ≡ choices book
 
--- an acceptable book is judged OK, with scores of nought
-pub accepted-judged : (c : RouteBook) → wellFormed c ≡ true → acceptable c ≡ true → judgedOf (good c) ≡ judged.Told Okay 0 0
-accepted-judged c fits e =
-    let v = okay-only (verdict c) e in
-    let z = okay-scores c fits v in
-    rw (v, z .0, z .1)
-
--- OK never comes with another score: so whoever is not judged OK in the sense above is not judged OK at all
-pub okay-always : (s : List ℕ) → Bytes s → (n : ℕ) {f fc : ℕ} → judgedOf (chosenOf (reading s) n) ≡ judged.Told Okay f fc → JudgedOkay s n
-okay-always s h n {f} {fc} e = go (choice-is s n) e
-  where
-    go : {g : Reading} → ChoiceIs s n g → judgedOf g ≡ judged.Told Okay f fc → judgedOf g ≡ judged.Told Okay 0 0
-    go (such m q l) e =
-        let v : verdict (chosen m n) ≡ Okay = cc in
-        accepted-judged (chosen m n) (choice-fits m n (reading-only s m h q .1)) (ap isOkay v)
-    go (no-such x) e = let z : _≡_ {A = ℕ} 0 1 = cc in absurd (omega arith)
-
 -- what `judge` says of a choice of a good book
 module _ (s : List ℕ) (bytes : Bytes s) (m : RouteBook) (reads : reading s ≡ good m) where
   judged-is : (n : ℕ) → n < choices m → judgedOf (chosenOf (reading s) n) ≡ judgedOf (good (chosen m n))
   judged-is n l = ap (λ (g : Reading). judgedOf (chosenOf g n)) reads ∙ ap judgedOf (such-a-choice m n l)
 
   to-judged : (n : ℕ) → n < choices m → acceptableAt m n ≡ true → JudgedOkay s n
-  to-judged n l e = judged-is n l ∙ accepted-judged (chosen m n) (choice-fits m n (reading-only s m bytes reads .1)) e
+  to-judged n l e = judged-is n l ∙ okay-noughts (chosen m n) (choice-fits m n (reading-only s m bytes reads .1)) (okay-only (verdict (chosen m n)) e)
 
   from-judged : (n : ℕ) → JudgedOkay s n → (n < choices m) × (acceptableAt m n ≡ true)
   from-judged n j = elim (decLt n (choices m)) [

@@ -21,7 +21,9 @@ use Rattle.book.proofs.ReadBack.{Denied, at-fault, no-choice, no-room, number-s
 use Rattle.judgement.specs.declared.Verdict.the-variants.{Okay}
 use Rattle.judgement.specs.declared.Judged.{Judged}
 use Rattle.judgement.specs.declared.Judged.the-variants as judged
-use Rattle.judgement.specs.Judgement.{acceptable}
+use Rattle.judgement.specs.Judgement.{verdict, acceptable}
+use Rattle.judgement.proofs.Verdicts.{okay-only}
+use Rattle.judgement.proofs.Demand.{okay-noughts}
 use Rattle.judgement.specs.Answers.{judgedOf}
 use Rattle.search.specs.declared.Finding.the-variants.{Found}
 use Rattle.search.specs.declared.Searched.{Searched}
@@ -29,7 +31,6 @@ use Rattle.search.specs.declared.Searched.the-variants.{Told}
 use Rattle.search.specs.Answers.{searchedOf}
 use Rattle.search.proofs.Findings.{found-exact}
 use Rattle.search.proofs.Told.{Tells, tells}
-use Rattle.search.proofs.Demand.{accepted-judged}
 
 -- r is the answer of `search` for the bytes s; w is that of `write` for choice n of them, and x the buffer `out` afterwards
 module _ (s : List ℕ) (h : Bytes s) (limit n t : ℕ) (r : Searched) (searched : r ≡ searchedOf (reading s) limit) (is-found : r ≡ Told (Found n t))
@@ -80,7 +81,7 @@ module _ (s : List ℕ) (h : Bytes s) (limit n t : ℕ) (r : Searched) (searched
       let c = chosen m n in
       let z = served ne in
       let first : chosenOf (good c) 0 ≡ good c = such-a-choice c 0 (choices-some c (choice-fits m n fits)) ∙ ap good (chosen-none c) in
-      (z, told ∙ ap (λ (g : Reading). judgedOf (chosenOf g 0)) (reads-back z) ∙ ap judgedOf first ∙ accepted-judged c (choice-fits m n fits) accepted)
+      (z, told ∙ ap (λ (g : Reading). judgedOf (chosenOf g 0)) (reads-back z) ∙ ap judgedOf first ∙ okay-noughts c (choice-fits m n fits) (okay-only (verdict c) accepted))
 
   -- and with any limit but 0, the search of those bytes finds choice 0
   pub found-again : (writtenNumber w ≡ 11 → ⊥) → (limit′ : ℕ) → 0 < limit′ → (q : Searched) → q ≡ searchedOf (reading bytes) limit′ → q ≡ Told (Found 0 t)

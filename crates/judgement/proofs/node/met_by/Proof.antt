@@ -9,7 +9,7 @@ use lib.ListN.{length, getD}
 use Rattle.book.proofs.Routes.{lent}
 use Rattle.judgement.specs.Closing.{MetBy}
 use Rattle.judgement.proofs.Usable.{held-usable, usable-lightpaths, usable-fits}
-use Rattle.judgement.proofs.MetWords.{held-ends, held-len, held-route, met-by-none, met-by-more}
+use Rattle.judgement.proofs.MetWords.{held-span-ends, held-len, held-route, met-by-none, met-by-more}
 use Rattle.judgement.proofs.node.met_by.Statement.{statement}
 use Rattle.judgement.proofs.node.met_by.Tie as tie
 
@@ -63,7 +63,7 @@ met-on-requires c κs =
     let s = c .before .before .before .before .before .before .before .before .before .before in
     let k = c .before .before .before .before .before .before .before .before .loop .k in
     let l = c .before .before .before .before .before .before .before .loop-test .taken in
-    (usable-fits (held-usable (s .pre)) (search needs) (search needs) .from-low k, rw (lent (s .args .t1 .route) (16 * k) (getD (s .args .t1 .len) k 0)) (held-route (s .pre) k l), held-ends (s .pre))
+    (usable-fits (held-usable (s .pre)) (search needs) (search needs) .from-low k, rw (lent (s .args .t1 .route) (16 * k) (getD (s .args .t1 .len) k 0)) (held-route (s .pre) k l), held-span-ends (s .pre))
 
 mul-words : tie.Need-mul-words Inv-loop μ-loop
 mul-words c = search needs
