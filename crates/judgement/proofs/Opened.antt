@@ -19,6 +19,7 @@ use Rattle.book.proofs.Readers.{Bytes}
 use Rattle.book.proofs.Format.{reading-only}
 use Rattle.book.proofs.Chosen.{choice-fits}
 use Rattle.book.proofs.ChoiceRead.{ChoiceIs, such, no-such, choice-is, refused-above}
+use Rattle.judgement.specs.Holding.{Held}
 use Rattle.judgement.specs.Judgement.{verdict, scoreF, scoreFc}
 use Rattle.judgement.specs.Answers.{judgedOf, judgedNumbers}
 use Rattle.judgement.specs.declared.Verdict.{Verdict}
@@ -75,3 +76,16 @@ module _ (s : List ℕ) (n : ℕ) (h : Bytes s) where
       kinds (Split d) f c = refl
       kinds (Cut x d) f c = refl
       kinds Okay f c = refl
+
+-- THE LAWS of an operation on bytes: r is what `choose` handed back, and f what is to be answered of a reading. A good book is there to be asked about, what
+-- is told of it is told of the reading, and a refusal is handed on
+module _ (s : List ℕ) (n : ℕ) (r : Reply) (e : r ≡ shown (chosenOf (reading s) n)) where
+  pub good-held : Bytes s → r .answer ≡ Good → Held (r .book)
+  good-held h a = let o = opened s n h r e a in record { book = o .book; is = o .held; fits = o .fits }
+
+  pub good-told : {A : Type 0} (f : Reading → A) {x : A} → Bytes s → r .answer ≡ Good
+      → ((m : RouteBook) → r .book ≡ bookOf m → wellFormed m ≡ true → x ≡ f (good m)) → x ≡ f (chosenOf (reading s) n)
+  good-told f h a told = let o = opened s n h r e a in told (o .book) (o .held) (o .fits) ∙ ap f (sym (o .is))
+
+  pub refused-told : {A : Type 0} (f : Reading → A) {k p : ℕ} → r .answer ≡ Refused k p → f (refused k p) ≡ f (chosenOf (reading s) n)
+  refused-told f a = ap f (sym (opened-refused (chosenOf (reading s) n) r e a))
