@@ -1,29 +1,20 @@
-// The commands: `ask VERB NUMBER..` with a book on standard input prints what docs/COMMANDS.md says. Where an argument is no number, or the chosen book
-// cannot be written, a sentence on the error output says so and nothing is printed. `./gristvalley` starts it, and makes a status of what it prints.
+// The commands: `ask VERB BOOK WORD..` prints what docs/COMMANDS.md says of the book in the file BOOK. Where a file cannot be read or made, or a word is no
+// number, a sentence on the error output says so and nothing is printed. `./gristvalley` starts it, and makes a status of what it tells.
 use book::write;
 use book::write::Written;
-use libc::STDERR_FILENO;
 use listing::commands;
 use listing::number;
 use listing::number::Parsed;
 
-// The descriptor that the chosen book is written to.
-const OUT: i32 = 3;
-
-// Says something on the error output.
-fn say(words: &[u8]) {
-    io::write_all(STDERR_FILENO, words);
-}
-
 // Says what is wrong with an argument.
 fn blame(name: &[u8], word: &[u8], why: &[u8]) {
-    say(b"gristvalley: ");
-    say(name);
-    say(b" is '");
-    say(word);
-    say(b"' and must be a whole number from 0 to 4294967295, in digits only: ");
-    say(why);
-    say(b"\n");
+    console::say(b"gristvalley: ");
+    console::say(name);
+    console::say(b" is '");
+    console::say(word);
+    console::say(b"' and must be a whole number from 0 to 4294967295, in digits only: ");
+    console::say(why);
+    console::say(b"\n");
 }
 
 // Says why an argument is no number, where it is none.
@@ -64,67 +55,106 @@ fn same(a: &[u8], b: &[u8]) -> bool {
     true
 }
 
-// Writes the first bytes of a buffer, and answers whether they all reached the file, and its disk.
-fn put(buffer: &[u8], len: usize) -> bool {
-    if buffer.len() < len {
+// Makes the file that argument i names, which nothing may have been called before, with the bytes in it, and answers whether all of them reached the disk.
+fn make_file(i: usize, bytes: &[u8]) -> bool {
+    let mut name = io::buffer();
+    let k = os::arg(i, &mut name);
+    let fd = os::create(&name[..k]);
+    if fd < 0 {
         return false;
     }
-    io::write_all(OUT, &buffer[..len]) && libc::fsync(OUT) == 0
+    let is_kept = console::put(fd, bytes) && libc::fsync(fd) == 0;
+    libc::close(fd) == 0 && is_kept
 }
 
-// Writes choice n, and then prints that it is written.
+// Has what was entered into the folder that argument i names reach its disk, and answers whether it did. Some file systems have nothing to do for that, and say
+// that it is not for a folder.
+fn sync_folder(i: usize) -> bool {
+    let mut name = io::buffer();
+    let k = os::arg(i, &mut name);
+    let fd = os::open_read(&name[..k]);
+    if fd < 0 {
+        return false;
+    }
+    let is_synced = libc::fsync(fd) == 0 || os::errno() == libc::EINVAL;
+    libc::close(fd) == 0 && is_synced
+}
+
+// Keeps the first bytes of a buffer in a new file.
+fn keep(buffer: &[u8], len: usize) {
+    if len <= buffer.len() && make_file(4, &buffer[..len]) {
+        console::tell(console::SERVED);
+    } else {
+        os::fail(b"gristvalley: the chosen book could not be written");
+    }
+}
+
+// Keeps choice n in a new file, which has no name yet that a planner gave it; so nothing is printed but a refusal.
 fn write_choice(s: &[u8], n: u32) {
     let mut out = io::buffer();
     let w = write::write(s, n, &mut out);
-    if let Written::Length(len) = w {
-        if !put(&out, len) {
-            say(b"gristvalley: the chosen book could not be written\n");
-            return;
-        }
+    match w {
+        Written::Length(len) => keep(&out, len),
+        Written::Refused(no, place) => console::answer(commands::written(w)),
     }
-    let t = commands::written(w);
-    console::print(t);
+}
+
+// `named FOLDER`, of a book that was written and has its name: prints that it is written, once the folder has it on its disk. The book was read by its name, and
+// choice 0 of what was read is the book itself.
+fn named(s: &[u8]) {
+    let mut out = io::buffer();
+    let w = write::write(s, 0, &mut out);
+    if !sync_folder(3) {
+        os::fail(b"gristvalley: the folder of OUT could not be synced");
+        return;
+    }
+    match w {
+        Written::Length(len) => console::answer(commands::written(w)),
+        Written::Refused(no, place) => console::say(
+            b"gristvalley: OUT does not hold what was written\n",
+        ),
+    }
 }
 
 // `read`.
 fn read(s: &[u8]) {
     let t = commands::read(s);
-    console::print(t);
+    console::answer(t);
 }
 
 // `judge CHOICE`.
 fn judge(s: &[u8]) {
-    let p = number_at(2, b"CHOICE");
+    let p = number_at(3, b"CHOICE");
     if let Parsed::Number(n) = p {
         let t = commands::judge(s, n);
-        console::print(t);
+        console::answer(t);
     }
 }
 
 // `open CHOICE SPAN`.
 fn open(s: &[u8]) {
-    let p = number_at(2, b"CHOICE");
-    let q = number_at(3, b"SPAN");
+    let p = number_at(3, b"CHOICE");
+    let q = number_at(4, b"SPAN");
     if let Parsed::Number(n) = p {
         if let Parsed::Number(x) = q {
             let t = commands::open(s, n, x);
-            console::print(t);
+            console::answer(t);
         }
     }
 }
 
 // `search LIMIT`.
 fn search(s: &[u8]) {
-    let p = number_at(2, b"LIMIT");
+    let p = number_at(3, b"LIMIT");
     if let Parsed::Number(limit) = p {
         let t = commands::search(s, limit);
-        console::print(t);
+        console::answer(t);
     }
 }
 
-// `write CHOICE`.
+// `write CHOICE FILE`.
 fn write_out(s: &[u8]) {
-    let p = number_at(2, b"CHOICE");
+    let p = number_at(3, b"CHOICE");
     if let Parsed::Number(n) = p {
         write_choice(s, n);
     }
@@ -142,15 +172,20 @@ fn answer(verb: &[u8], s: &[u8]) {
         search(s);
     } else if same(verb, b"write") {
         write_out(s);
+    } else if same(verb, b"named") {
+        named(s);
     } else {
-        say(b"gristvalley: the first argument is no command\n");
+        console::say(b"gristvalley: the first argument is no command\n");
     }
 }
 
 fn main() {
-    let mut word = io::buffer();
-    let k = os::arg(1, &mut word);
+    let mut verb = io::buffer();
+    let k = os::arg(1, &mut verb);
     let mut space = io::buffer();
-    let n = console::read_book(&mut space);
-    answer(&word[..k], &space[..n]);
+    let m = console::read_file(2, b"BOOK", &mut space);
+    let len = m.len;
+    if !m.failed {
+        answer(&verb[..k], &space[..len]);
+    }
 }

@@ -5,3 +5,4 @@ pub mod Numbers
 pub mod Moves
 pub mod Reports
 pub mod Listings
+pub mod Statuses

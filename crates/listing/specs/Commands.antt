@@ -1,7 +1,9 @@
 -- What the commands print: docs/COMMANDS.md.
 use Prim.Native.Nat.{ℕ}
-use mathlib.Core.Bool.{Bool, cond}
+use mathlib.Core.Bool.{Bool, false, cond}
 use mathlib.Core.List.{List, [], _∷_, _++_}
+use lib.Dec.{eqb}
+use lib.ListN.{getD}
 use Rattle.book.specs.Format.{Reading, good, refused}
 use Rattle.book.specs.Choice.{choices}
 use Rattle.book.specs.declared.write.Written.{Written}
@@ -11,7 +13,8 @@ use Rattle.judgement.specs.Sites.{siteOf}
 use Rattle.judgement.specs.declared.Asked.{Asked}
 use Rattle.judgement.specs.declared.Asked.the-variants as asked
 use Rattle.search.specs.Search.{finding}
-use Rattle.listing.specs.Report.{line, sideLine, endLine, badText, bookLine, verdictLine, scoreLine, siteLine, findingLine, movesOf}
+use Rattle.listing.specs.Report.{wordBAD, line, sideLine, endLine, badText, bookLine, verdictLine, scoreLine, siteLine, findingLine, movesOf}
+use Rattle.listing.specs.declared.text.Text.{Text}
 
 -- C3: the words, in ASCII
 abbrev pub wordCHOICE : List ℕ
@@ -69,3 +72,7 @@ writtenLine l = line wordWRITTEN (l ∷ [])
 abbrev pub writeOf : Written → List ℕ
 writeOf (written.Length l) = writtenLine l ++ endLine
 writeOf (written.Refused k p) = badText k p
+
+-- C10: whether an answer is a refusal, by its first two bytes: they are those of the word BAD, and of no other first word
+abbrev pub isRefusal : Text → Bool
+isRefusal t = cond (eqb (getD (t .bytes) 0 0) (getD wordBAD 0 0)) (eqb (getD (t .bytes) 1 0) (getD wordBAD 1 0)) false

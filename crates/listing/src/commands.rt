@@ -16,7 +16,7 @@ ghost use Rattle.book.specs.Format.{reading};
 ghost use Rattle.book.specs.Writing.{chosenOf};
 ghost use Rattle.judgement.specs.Answers.{askedOf};
 ghost use Rattle.listing.specs.Text.{textOf};
-ghost use Rattle.listing.specs.Commands.{judgeOf, openOf, searchOf, readOf, writeOf};
+ghost use Rattle.listing.specs.Commands.{judgeOf, openOf, searchOf, readOf, writeOf, isRefusal};
 ghost use Rattle.listing.specs.Inside.{Holds, choiceLines};
 
 // The lines about choice n of a book, whose bytes are s; b is the book that the choice makes.
@@ -109,4 +109,12 @@ pub fn written(w: Written) -> Text
         }
         Written::Refused(no, place) => lines::bad_text(no, place),
     }
+}
+
+// Whether an answer is a refusal, which begins with the word BAD, as no other does.
+pub fn is_refusal(t: Text) -> bool
+    ensures { λ r. ⌜ r ≡ isRefusal t ⌝ }
+{
+    let bytes = t.bytes;
+    bytes[0] == b'B' && bytes[1] == b'A'
 }
