@@ -1,5 +1,7 @@
 // The commands: `ask VERB BOOK WORD..` prints what docs/COMMANDS.md says of the book in the file BOOK. Where a file cannot be read or made, or a word is no
 // number, a sentence on the error output says so and nothing is printed. `./gristvalley` starts it, and makes a status of what it tells.
+#![tactic(auto)]
+
 use book::write;
 use book::write::Written;
 use listing::number::Parsed;

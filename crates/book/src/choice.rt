@@ -12,7 +12,7 @@ ghost use Rattle.book.specs.Inside.{Held};
 use crate::{Answer, Book, Reply, copy, fill};
 
 // The movable lightpaths of a book in rising order, and how many alternatives each has; noughts beyond the count.
-#[derive(Drop)]
+#[derive(Clone, Copy)]
 pub struct Movables {
     pub count: u8,
     pub lightpath: [u8; 8],
@@ -20,7 +20,7 @@ pub struct Movables {
 }
 
 // A digit for each movable lightpath, the lowest-numbered first; noughts beyond them.
-#[derive(Drop)]
+#[derive(Clone, Copy)]
 pub struct Choice {
     pub digits: [u8; 8],
 }

@@ -10,7 +10,7 @@ use crate::record::Tally;
 use crate::{Book, Step, record, row, set};
 
 // After the records of a kind: the place of what is due next, and the book with them; or a refusal.
-#[derive(Drop)]
+#[derive(Clone, Copy)]
 pub(crate) struct Filled {
     pub step: Step,
     pub book: Book,

@@ -1,5 +1,7 @@
 // Route books: a reader (any bytes in, a book or a numbered refusal out), the choices of a book and their numbers, and a writer of the chosen book.
 // docs/BOOK.md says what each of these is and what each refusal means.
+#![tactic(auto)]
+
 pub mod choice;
 mod copy;
 mod fill;
@@ -19,7 +21,7 @@ use stage::Counts;
 
 // A book that was read: counts, the set of stations, and one array a field, each its list and then noughts. Row k of `route` has 16 places; the
 // lightpaths' routes come first, then the alternatives'. `low` and `high` are the spans of each row as a set of 128.
-#[derive(Drop)]
+#[derive(Clone, Copy)]
 pub struct Book {
     pub nodes: u8,
     pub spans: u8,
@@ -39,21 +41,21 @@ pub struct Book {
 }
 
 // Good, or refused with a number and a place.
-#[derive(Drop)]
+#[derive(Clone, Copy)]
 pub enum Answer {
     Good,
     Refused(u8, usize),
 }
 
 // The reader's answer; the book is all noughts where it is refused.
-#[derive(Drop)]
+#[derive(Clone, Copy)]
 pub struct Reply {
     pub answer: Answer,
     pub book: Book,
 }
 
 // After some records: the place of the next, or a refusal's number and place.
-#[derive(Drop)]
+#[derive(Clone, Copy)]
 pub(crate) enum Step {
     Next(usize),
     Bad(u8, usize),

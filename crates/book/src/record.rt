@@ -95,7 +95,7 @@ pub(crate) fn sp_no(d: &[u8], nodes: u8) -> u8
 }
 
 // The number of a record's first fault, 0 where it has none, and how many bytes into the record the fault is.
-#[derive(Drop)]
+#[derive(Clone, Copy)]
 pub(crate) struct Flaw {
     pub no: u8,
     pub at: usize,
@@ -193,7 +193,7 @@ fn one_if(t: bool) -> u8
 
 // How many lightpaths there are; and of the alternatives so far, the last one's lightpath, how many are that lightpath's, and of how many
 // lightpaths they are.
-#[derive(Drop)]
+#[derive(Clone, Copy)]
 pub(crate) struct Tally {
     pub lightpaths: u8,
     pub last: u8,

@@ -6,7 +6,7 @@ ghost use Rattle.book.specs.Inside.{words_of, words_into};
 use crate::{copy, set};
 
 // Spans 0 to 63, and 64 to 127.
-#[derive(Drop)]
+#[derive(Clone, Copy)]
 pub(crate) struct Words {
     pub low: u64,
     pub high: u64,

@@ -8,7 +8,7 @@ use crate::fill::Filled;
 use crate::{Book, Step, fill, record};
 
 // The counts of HD.
-#[derive(Drop)]
+#[derive(Clone, Copy)]
 pub(crate) struct Counts {
     pub nodes: u8,
     pub spans: u8,

@@ -7,14 +7,14 @@ ghost use Rattle.book.specs.Inside.{hop_of, stray_in, Within, HighAt, EndsLow};
 use crate::set;
 
 // What one step of a walk gives: the node that it leads to, or that it leads nowhere.
-#[derive(Drop)]
+#[derive(Clone, Copy)]
 pub(crate) enum Hop {
     To(u8),
     Off,
 }
 
 // Whether a span of a route is at fault, and at which place in the route it stands.
-#[derive(Drop)]
+#[derive(Clone, Copy)]
 pub(crate) enum Amiss {
     Nowhere,
     At(usize),

@@ -11,7 +11,7 @@ use crate::copy::put;
 use crate::{Answer, Book, choice};
 
 // The writer's answer: how many bytes were written, or a refusal's number and place.
-#[derive(Drop)]
+#[derive(Clone, Copy)]
 pub enum Written {
     Length(usize),
     Refused(u8, usize),

@@ -1,5 +1,7 @@
 // What the programs share: a book is read from a file or from standard input, a text is printed on standard output, what went wrong is said on the error
 // output, and the status of the call is told to the launcher, since a program of this kit cannot end with one.
+#![tactic(auto)]
+
 ghost use Rattle.std.specs.Prelude.{◌≤◌, length};
 ghost use Rattle.io.specs.Counts.{IsPrefixLen};
 
@@ -16,7 +18,7 @@ pub const SERVED: u8 = b'0';
 const REFUSED: u8 = b'1';
 
 // How far a book was read or a text was written: how many bytes, whether these are all that count, and whether a call failed.
-#[derive(Drop)]
+#[derive(Clone, Copy)]
 pub struct Moved {
     pub len: usize,
     pub whole: bool,

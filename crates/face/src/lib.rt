@@ -1,5 +1,7 @@
 // The operations for a caller in C or Rust: numbers and slices in, and out the nine numbers of the answer, stored in a slice that the caller lends.
 // docs/FACE.md says what each number is, and face.h declares the functions.
+#![tactic(auto)]
+
 mod numbers;
 
 ghost use Rattle.std.specs.Prelude.{◌≡◌, length};

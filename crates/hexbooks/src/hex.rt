@@ -9,7 +9,7 @@ pub(crate) const MOST: usize = 4096;
 pub(crate) const NONE: usize = 4097;
 
 // What stands at a place of a line: a byte and whether a blank comes next and not the line's end, or neither.
-#[derive(Drop)]
+#[derive(Clone, Copy)]
 enum Piece {
     Byte(u8, bool),
     Wrong,

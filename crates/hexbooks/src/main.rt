@@ -3,6 +3,8 @@
 // is the empty book. A line that starts with `w` and a blank, and then has a book, prints the listing of src/choices.rt instead, and one that starts with
 // `j` and a blank that of src/judged.rt. One that starts with `s` and a blank, and then has four bytes and a book, prints the line of src/found.rt. A line
 // that starts with `#` and an empty line print nothing, and any other line prints `?`. Input past 524,288 bytes is not read.
+#![tactic(auto)]
+
 mod choices;
 mod found;
 mod hex;
@@ -31,7 +33,7 @@ fn print_answer(s: &[u8]) {
 }
 
 // What a line asks of its book: what reading answers, the listing of its choices, that of their judgement, or a search.
-#[derive(Drop)]
+#[derive(Clone, Copy)]
 enum Wanted {
     Reading,
     Choices,

@@ -12,7 +12,7 @@ use crate::{Verdict, load, side};
 use book::Book;
 
 // The lowest span that parts the stations, with the side then.
-#[derive(Drop)]
+#[derive(Clone, Copy)]
 pub(crate) enum Parted {
     At(u8, u64),
     Nowhere,

@@ -1,6 +1,8 @@
 // The judgement of a choice of routes: loads, sides, the verdict with its score, and the questions about spans. docs/JUDGEMENT.md says what each is, and
 // docs/SITES.md what closing a node answers.
 // The second engine judges by contraction, which docs/CONTRACTION.md tells.
+#![tactic(auto)]
+
 pub mod kind;
 mod load;
 mod merge;
@@ -23,7 +25,7 @@ use book::{Answer, choice};
 
 // The first that holds: a span over its limit, with its load and limit; a network that is split, with the side; a span whose loss parts the stations, with
 // the side then; or none of these.
-#[derive(Drop)]
+#[derive(Clone, Copy)]
 pub enum Verdict {
     Over(u8, u16, u8),
     Split(u64),
@@ -32,35 +34,35 @@ pub enum Verdict {
 }
 
 // The answer of `judge`: the verdict and the scores F and Fc, or a refusal's number and place.
-#[derive(Drop)]
+#[derive(Clone, Copy)]
 pub enum Judged {
     Told(Verdict, u16, u16),
     Refused(u8, usize),
 }
 
 // The answer of `ask` and `ask_set`: the side with the span or the spans out and whether it holds all stations, or a refusal's number and place.
-#[derive(Drop)]
+#[derive(Clone, Copy)]
 pub enum Asked {
     Told(u64, bool),
     Refused(u8, usize),
 }
 
 // The answer of `contract`: the verdict and how many merges were made, or a refusal's number and place.
-#[derive(Drop)]
+#[derive(Clone, Copy)]
 pub enum Contracted {
     Told(Verdict, u16),
     Refused(u8, usize),
 }
 
 // The lowest node whose closing parts the stations that are left, with the side of the lowest of them then; or that there is none.
-#[derive(Drop)]
+#[derive(Clone, Copy)]
 pub enum Site {
     Down(u8, u64),
     Okay,
 }
 
 // The answer of `close`: what closing a node does, or a refusal's number and place.
-#[derive(Drop)]
+#[derive(Clone, Copy)]
 pub enum Closed {
     Told(Site),
     Refused(u8, usize),

@@ -10,7 +10,7 @@ ghost use Rattle.judgement.specs.declared.load.Overload.TheVariants.{At, Nowhere
 use book::Book;
 
 // The lowest span whose load exceeds its limit, with its load and limit; or that there is none.
-#[derive(Drop)]
+#[derive(Clone, Copy)]
 pub(crate) enum Overload {
     At(u8, u16, u8),
     Nowhere,

@@ -17,7 +17,7 @@ use crate::{Contracted, Verdict, kind, load, ring};
 use book::Book;
 
 // The pieces: the label of each node, and how many rings were merged to make them.
-#[derive(Drop)]
+#[derive(Clone, Copy)]
 pub(crate) struct Pieces {
     pub label: [u8; 64],
     pub merges: u16,

@@ -56,7 +56,7 @@ fn apart_on<'a>(
 }
 
 // What the loss of a span does: the side of the lowest station then, and how many pairs F counts for the span.
-#[derive(Drop)]
+#[derive(Clone, Copy)]
 pub(crate) struct Loss {
     pub side: Side,
     pub pairs: u16,

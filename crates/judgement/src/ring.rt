@@ -19,7 +19,7 @@ fn far(x: u8, a: u8, b: u8) -> u8
 }
 
 // The spans of one word that some lightpath of a way rides, and those that more than one rides.
-#[derive(Drop)]
+#[derive(Clone, Copy)]
 pub(crate) struct Carried {
     pub once: u64,
     pub twice: u64,
@@ -38,7 +38,7 @@ impl Carried {
 }
 
 // What a way gathers: the piece that it has come to, the pieces that its lightpaths end at, and the spans that these ride, by both words.
-#[derive(Drop)]
+#[derive(Clone, Copy)]
 pub(crate) struct Trail {
     pub at: u8,
     pub touched: u64,
@@ -120,7 +120,7 @@ fn ring_trail<'a>(
 }
 
 // A ring that may be merged, by the pieces that its lightpaths end at; or that there is none.
-#[derive(Drop)]
+#[derive(Clone, Copy)]
 pub(crate) enum Ring {
     Sparing(u64),
     Nothing,

@@ -7,7 +7,7 @@ ghost use Rattle.judgement.specs.Network.{Network, side_of};
 ghost use Rattle.judgement.specs.Inside.{net_of, up_of, Fits, noted, Led, LedBySome, growth, next_in, took_in, up_table, unset, size};
 
 // A set of numbers below 64, those of the nodes; the same word serves for the spans of a route, and for the nodes that it meets.
-#[derive(Drop)]
+#[derive(Clone, Copy)]
 pub(crate) struct Side {
     pub mask: u64,
 }
@@ -111,7 +111,7 @@ pub(crate) fn rows_of<'a>(
 }
 
 // A side that grows, and which of its nodes have been looked at.
-#[derive(Drop)]
+#[derive(Clone, Copy)]
 struct Growth {
     pub side: Side,
     pub seen: Side,

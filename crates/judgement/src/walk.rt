@@ -16,7 +16,7 @@ use crate::{Judged, Verdict, kind, load, pairs, side};
 use book::Book;
 
 // What a walk over spans tells: the lowest whose loss parts the stations, and how many pairs F counts.
-#[derive(Drop)]
+#[derive(Clone, Copy)]
 struct Walked {
     pub parted: Parted,
     pub pairs: u16,
@@ -47,7 +47,7 @@ fn walk(b: Book, words: [u64; 152], base: u8, count: u8) -> Walked
 }
 
 // What the walk over all spans tells: CUT at the lowest whose loss parts the stations, or OK; and the score F.
-#[derive(Drop)]
+#[derive(Clone, Copy)]
 struct Spans {
     pub verdict: Verdict,
     pub f: u16,

@@ -38,7 +38,7 @@ fn widened<'a>(old: Side, from: &'a [u8; 96], to: &'a [u8; 96], skip: usize, n: 
 }
 
 // The rounds: place j of `sets` is what is at most j lightpaths away, up to the place `last`.
-#[derive(Drop)]
+#[derive(Clone, Copy)]
 pub(crate) struct Rounds {
     pub sets: [u64; 65],
     pub last: usize,

@@ -1,5 +1,7 @@
 // What the programs print, as bytes: the report and the answers to commands, worked out from the answers of the libraries below. docs/REPORT.md and
 // docs/COMMANDS.md say what each line is.
+#![tactic(auto)]
+
 pub mod commands;
 mod lines;
 pub mod number;

@@ -4,7 +4,7 @@ ghost use Rattle.listing.specs.Number.{parsed};
 ghost use Rattle.listing.specs.Inside.{fitted, with_value, with_byte};
 
 // The number that a word is, or why it is none: it has no byte, a byte that is no digit, or digits worth 2 to the power 32 or more.
-#[derive(Drop)]
+#[derive(Clone, Copy)]
 pub enum Parsed {
     Number(u32),
     Empty,

@@ -4,7 +4,7 @@ ghost use Rattle.listing.specs.Text.{glyph, spelled, width, decimal, hex, text_o
 ghost use Rattle.listing.specs.Inside.{Adds};
 
 // Up to 1,024 bytes of text, and noughts beyond them. What comes after those is dropped.
-#[derive(Drop)]
+#[derive(Clone, Copy)]
 pub struct Text {
     pub len: u16,
     pub bytes: [u8; 1024],

@@ -1,4 +1,6 @@
 // The report program: reads the book that its argument names, or else standard input, keeps 4,096 bytes of it, and prints the report on it.
+#![tactic(auto)]
+
 ghost use Rattle.io.specs.Counts.{IsPrefixLen};
 
 use console::Moved;

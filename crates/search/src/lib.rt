@@ -1,4 +1,6 @@
 // The search: the least acceptable choice of a book among those that a trial limit allows. docs/SEARCH.md says what each answer means.
+#![tactic(auto)]
+
 mod trial;
 
 ghost use Rattle.std.specs.Prelude.{◌≡◌, true, min};
@@ -13,7 +15,7 @@ use book::{Answer, Book};
 
 // The least acceptable choice, with the number of choices; that there is none, with the number of choices; or that the limit ran out before either was
 // known, with the limit and the number of choices.
-#[derive(Drop)]
+#[derive(Clone, Copy)]
 pub enum Finding {
     Found(u32, u32),
     None(u32),
@@ -21,7 +23,7 @@ pub enum Finding {
 }
 
 // The answer of `search`: what was found, or a refusal's number and place.
-#[derive(Drop)]
+#[derive(Clone, Copy)]
 pub enum Searched {
     Told(Finding),
     Refused(u8, usize),

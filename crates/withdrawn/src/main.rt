@@ -9,12 +9,14 @@
 //     END
 //
 // or `BAD number place` and `END` where the book is refused.
+#![tactic(auto)]
+
 use book::Answer;
 use judgement::Asked;
 use libc::{STDIN_FILENO, STDOUT_FILENO};
 
 // A set of spans, as `ask_set` takes it.
-#[derive(Drop)]
+#[derive(Clone, Copy)]
 struct Spans {
     pub low: u64,
     pub high: u64,
@@ -43,7 +45,7 @@ impl Spans {
 }
 
 // Up to three spans. The bits of a part's number say which of them it has, and the last part, 0, 1, 3 or 7, has all that there are.
-#[derive(Drop)]
+#[derive(Clone, Copy)]
 struct Booking {
     pub first: u8,
     pub second: u8,
@@ -62,7 +64,7 @@ impl Booking {
 
 // How many sets were tried, how many of them leave all stations joined and how many do not, how many parts these sets have, and how many parts of those that
 // leave all joined do not.
-#[derive(Drop)]
+#[derive(Clone, Copy)]
 struct Tally {
     pub sets: u64,
     pub joined: u64,
@@ -72,7 +74,7 @@ struct Tally {
 }
 
 // The two tallies: of the sets, and of the sets with a further loss.
-#[derive(Drop)]
+#[derive(Clone, Copy)]
 struct Tallies {
     pub sets: Tally,
     pub losses: Tally,
