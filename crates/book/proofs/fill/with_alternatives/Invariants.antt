@@ -1,0 +1,16 @@
+-- The loop over the AL records: the arrays hold those read, behind the rows of the lightpaths, and what is left to read gives what the whole gives.
+-- The tally stands for those read, so each record is tested against them.
+use native.Mathlib.Omega.{arith}
+use borrow.Author.Rules.{rules}
+use Prim.Native.Nat.{◌+◌, ◌-◌, ◌≤◌}
+use mathlib.Core.Path.{◌≡◌, refl}
+use lib.ListN.{length, get_or, drop, length-take}
+use Rattle.book.proofs.Routes.{part, lent}
+use Rattle.book.proofs.Lightpaths.{AlternativesTurned, alternatives_start, alternatives_next, alternatives_stop, alternatives_done, al_inside, al_short, al_whole}
+use Rattle.book.proofs.fill.with_alternatives.Given as goal
+
+abbrev pub invariant-loop-k : goal.invariant-loop-k
+invariant-loop-k l = (l.tally.lightpaths ≡ l.b.lightpaths) × AlternativesTurned l.b l.s l.at l.count l.k l.place l.tally.last l.tally.same l.tally.different l.owner l.len l.route l.low l.high
+
+abbrev pub decreases-loop-k : goal.decreases-loop-k
+decreases-loop-k l = l.count - l.k

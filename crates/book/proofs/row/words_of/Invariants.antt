@@ -1,0 +1,14 @@
+-- What is left of the route, put into the words so far, gives the words of the whole.
+use borrow.Author.Rules.{rules}
+use mathlib.Core.Path.{◌≡◌, refl, ◌∙◌}
+use Prim.Native.Nat.{◌-◌, ◌≤◌, zero-le}
+use lib.ListN.{length, drop, drop_of_length-le}
+use Rattle.book.specs.Bits.{word_into, span_word}
+use Rattle.book.proofs.Walking.{route_cons}
+use Rattle.book.proofs.row.words_of.Given as goal
+
+abbrev pub invariant-loop-i : goal.invariant-loop-i
+invariant-loop-i l = (l.i ≤ length l.route) × (span_word 0 l.route ≡ word_into 0 l.w.low (drop l.i l.route)) × (span_word 1 l.route ≡ word_into 1 l.w.high (drop l.i l.route))
+
+abbrev pub decreases-loop-i : goal.decreases-loop-i
+decreases-loop-i l = length l.route - l.i
