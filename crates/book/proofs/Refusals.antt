@@ -259,15 +259,15 @@ book_found b h e =
     then_bad (hd b b) _ e (hd_found at_head) λ v r0 f0 e0.
     let o = hd_only b b f0 in
     let c : List ℕ = field v 0 ∷ field v 1 ∷ field v 2 ∷ field v 3 ∷ [] in
-    loop_found (λ l. nd_right) (nodes c) (λ m l x s t st q f. after_node st q) (λ m l s. nd_found) _ (field v 0) [] r0 (after_head at_head o.0 o.1)
+    loop_found (λ l. nd_right) (nodes c) (λ m l x s t st q f. after_node st q) (λ m l s. nd_found) (λ x x'. and_then {B = Unit {0}} (need (some x) 10 x' x') (λ x'' u. spans_on v x (field v 1) [] u)) (field v 0) [] r0 (after_head at_head o.0 o.1)
     (bytes_after (record_bytes HD c) r0 (subst Bytes o.0 h)) e0 λ l1 r1 st1 h1 e1.
     let ns = reverse l1 in
-    tested st1 (some ns) 10 (got tt r1) _ e1 row10 λ f1 g1.
-    loop_found (λ l. sp_right (length ns)) (spans c ns) (λ m l x s t. after_span) (λ m l s. sp_found) _ (field v 1) [] r1 (after_nodes st1 f1) h1 g1 λ l2 r2 st2 h2 e2.
+    tested st1 (some ns) 10 (got tt r1) (λ x. spans_on v (reverse {A = Bool} l1) (field v 1) []) e1 row10 λ f1 g1.
+    loop_found (λ l. sp_right (length ns)) (spans c ns) (λ m l x s t. after_span) (λ m l s. sp_found) (λ x. lightpaths_on v (reverse {A = Bool} l1) x (field v 2) []) (field v 1) [] r1 (after_nodes st1 f1) h1 g1 λ l2 r2 st2 h2 e2.
     let sps = reverse l2 in
-    loop_found (λ l. lp_right ns sps) (lightpaths c ns sps) (λ m l x s t. after_lightpath) (λ m l s. lp_found) _ (field v 2) [] r2 (after_spans st2) h2 e2 λ l3 r3 st3 h3 e3.
+    loop_found (λ l. lp_right ns sps) (lightpaths c ns sps) (λ m l x s t. after_lightpath) (λ m l s. lp_found) (λ x. alternatives_on (reverse {A = Span} l2) (map ends_of x) (field v 3) []) (field v 2) [] r2 (after_spans st2) h2 e2 λ l3 r3 st3 h3 e3.
     let es = map ends_of (reverse l3) in
-    loop_found (al_right sps es) (alternatives sps es) (λ m l x s t. after_alternative) (λ m l s. al_found) _ (field v 3) [] r3 (after_lightpaths st3) h3 e3 λ l4 r4 st4 h4 e4.
+    loop_found (al_right sps es) (alternatives sps es) (λ m l x s t. after_alternative) (λ m l s. al_found) (λ x. ending_on) (field v 3) [] r3 (after_lightpaths st3) h3 e3 λ l4 r4 st4 h4 e4.
     let st5 = after_alternatives st4 in
     opened_found st5 _ opens_en e4 λ w r5 q. past_found (after_ending st5 q)
 

@@ -3,9 +3,6 @@
 use mathlib.Core.Path.{◌≡◌, ap, ◌∙◌}
 use native.Mathlib.Nat.{le_antisymm}
 use Rattle.book.specs.Moving.{rows_in, with_rows_of}
-use Rattle.book.specs.declared.Book.{Book}
-use Rattle.book.specs.declared.choice.Movables.{Movables}
-use Rattle.book.specs.declared.choice.Choice.{Choice}
 use Prim.Native.Nat.{◌+◌, ◌-◌, ◌*◌, ◌≤◌}
 use mir.Syntax.{w8}
 use mir.Val.{Fits}
@@ -17,35 +14,25 @@ use borrow.Author.Rules.{rules}
 use Rattle.book.proofs.choice.chosen.Goals as goal
 use Rattle.book.proofs.choice.chosen.Goals.{After-high-1, In-loop-i}
 
--- the book, its movable lightpaths and the choice that the function is given
-abbrev the-book : After-high-1 → Book
-the-book c = c.args.b
-
-abbrev the-movables : After-high-1 → Movables
-the-movables c = c.args.w
-
-abbrev the-choice : After-high-1 → Choice
-the-choice c = c.args.c
-
 -- a book has 152 rows of sixteen places
-all_rows : (c : After-high-1) → length (the-book c).route ≡ 2432
+all_rows : (c : After-high-1) → length c.args.b.route ≡ 2432
 all_rows c = search rules
 
 pub loop-i-init : goal.loop-i-init
 loop-i-init c =
-    let z : Fits w8 (the-book (goal.at.loop-i-init c).After-high-1).lightpaths = search rules in
-    moving_start _ _ _ _ _ _ (search rules) (omega (arith, c.at_most-n.ensures)) (all_rows (goal.at.loop-i-init c).After-high-1) (omega arith)
+    let z : Fits w8 c.args.b.lightpaths = search rules in
+    moving_start _ _ _ _ _ _ (search rules) (omega (arith, c.at_most-n.ensures)) (all_rows c) (omega arith)
 
 -- what the loop reads of the movable lightpaths and the digits are bytes
 module _ (c : In-loop-i) where
-  low_k : get_or (the-movables c.After-high-1).lightpath c.loop-i.i 0 ≤ 255
-  low_k = let z : Fits w8 (get_or (the-movables c.After-high-1).lightpath c.loop-i.i 0) = search rules in omega arith
+  low_k : get_or c.args.w.lightpath c.loop-i.i 0 ≤ 255
+  low_k = let z : Fits w8 (get_or c.args.w.lightpath c.loop-i.i 0) = search rules in omega arith
 
-  low_more : get_or (the-movables c.After-high-1).more c.loop-i.i 0 ≤ 255
-  low_more = let z : Fits w8 (get_or (the-movables c.After-high-1).more c.loop-i.i 0) = search rules in omega arith
+  low_more : get_or c.args.w.more c.loop-i.i 0 ≤ 255
+  low_more = let z : Fits w8 (get_or c.args.w.more c.loop-i.i 0) = search rules in omega arith
 
-  low_d : get_or (the-choice c.After-high-1).digits c.loop-i.i 0 ≤ 255
-  low_d = let z : Fits w8 (get_or (the-choice c.After-high-1).digits c.loop-i.i 0) = search rules in omega arith
+  low_d : get_or c.args.c.digits c.loop-i.i 0 ≤ 255
+  low_d = let z : Fits w8 (get_or c.args.c.digits c.loop-i.i 0) = search rules in omega arith
 
 pub overflow_cast-k : goal.overflow_cast-k
 overflow_cast-k c = omega (arith, low_k (goal.at.overflow_cast-k c).In-loop-i)
@@ -64,7 +51,7 @@ slice_bounds-put-end-in-loop-i c = omega (arith, all_rows (goal.at.slice_bounds-
 pub put-requires : goal.put-requires
 put-requires c =
     let from = c.row_of-from.result in
-    omega (arith, c.loop-i.invariant.wide, length-take (16 * from + 16 - 16 * from) (drop (16 * from) (the-book (goal.at.put-requires c).After-high-1).route))
+    omega (arith, c.loop-i.invariant.wide, length-take (16 * from + 16 - 16 * from) (drop (16 * from) c.args.b.route))
 
 pub overflow_cast-first-in-loop-i : goal.overflow_cast-first-in-loop-i
 overflow_cast-first-in-loop-i c = omega (arith, low_more (goal.at.overflow_cast-first-in-loop-i c).In-loop-i)
@@ -78,7 +65,7 @@ overflow_add-first c =
 pub loop-i-preserved : goal.loop-i-preserved
 loop-i-preserved c =
     let from = c.row_of-from.result in
-    rw (c.put.ensures, lent (the-book (goal.at.loop-i-preserved c).After-high-1).route (16 * from) 16, c.row_of-from.ensures, c.at_most-to.ensures)
+    rw (c.put.ensures, lent c.args.b.route (16 * from) 16, c.row_of-from.ensures, c.at_most-to.ensures)
     (moving_next _ _ _ _ _ c.loop-i.invariant c.loop-i-test.true (low_more (goal.at.loop-i-preserved c).In-loop-i))
 
 pub returns : goal.returns
@@ -86,4 +73,4 @@ returns c =
     let l = c.loop-i in
     let n = c.at_most-n in
     let all = moving_end _ _ _ _ _ n.result (rw (le_antisymm l.invariant.few c.loop-i-test.false) at l.invariant) in
-    rw c.with_rows.ensures (ap (with_rows_of (the-book (goal.at.returns c).After-high-1)) (all ∙ rw n.ensures))
+    rw c.with_rows.ensures (ap (with_rows_of c.args.b) (all ∙ rw n.ensures))

@@ -18,7 +18,7 @@ use Rattle.book.proofs.choice.chosen.Given as goal
 
 abbrev pub invariant-loop-i : goal.invariant-loop-i
 invariant-loop-i l =
-    Moving (rows_in l.b) l.b.lightpaths l.lightpath l.more l.digits l.n (record { l.len = l.len; l.route = l.route; l.low = l.low; l.high = l.high }) l.first l.i
+    Moving (rows_in l.b) l.b.lightpaths l.lightpath l.more l.digits l.n (record { len = l.len; route = l.route; low = l.low; high = l.high }) l.first l.i
 
 abbrev pub decreases-loop-i : goal.decreases-loop-i
 decreases-loop-i l = l.n - l.i

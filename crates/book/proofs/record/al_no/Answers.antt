@@ -2,7 +2,6 @@
 -- The lightpath is below the count, so its ends are there to be looked up.
 use native.Mathlib.Omega.{arith}
 use borrow.Author.Rules.{rules}
-use borrow.Author.Tests.{not-true, not-false}
 use mathlib.Core.Path.{sym, ◌∙◌}
 use lib.ListN.{get_or}
 use Rattle.book.proofs.Tallies.{follows_low}
@@ -19,16 +18,16 @@ pub bounds-d-3 : goal.bounds-d-3
 bounds-d-3 c = omega (arith, c.opened_no-no.ensures.whole c.if-no-ne0.false)
 
 pub returns-then-not-follows : goal.returns-then-not-follows
-returns-then-not-follows c = al_follows _ _ _ _ _ _ _ _ _ _ c.opened_no-no.ensures c.if-no-ne0.false (sym c.follows.ensures ∙ not-true _ c.if-not-follows.true)
+returns-then-not-follows c = al_follows _ _ _ _ _ _ _ _ _ _ c.opened_no-no.ensures c.if-no-ne0.false (sym c.follows.ensures ∙ c.if-not-follows.true)
 
 pub overflow_cast-i : goal.overflow_cast-i
-overflow_cast-i c = omega (arith, (follows_low c.args.tally.last c.args.tally.same c.args.tally.different c.args.tally.lightpaths (get_or c.args.d.now 2 0) (sym c.follows.ensures ∙ not-false _ c.if-not-follows.false)).0)
+overflow_cast-i c = omega (arith, (follows_low c.args.tally.last c.args.tally.same c.args.tally.different c.args.tally.lightpaths (get_or c.args.d.now 2 0) (sym c.follows.ensures ∙ c.if-not-follows.false)).0)
 
 pub bounds-from-i : goal.bounds-from-i
-bounds-from-i c = omega (arith, (follows_low c.args.tally.last c.args.tally.same c.args.tally.different c.args.tally.lightpaths (get_or c.args.d.now 2 0) (sym c.follows.ensures ∙ not-false _ c.if-not-follows.false)).0)
+bounds-from-i c = omega (arith, (follows_low c.args.tally.last c.args.tally.same c.args.tally.different c.args.tally.lightpaths (get_or c.args.d.now 2 0) (sym c.follows.ensures ∙ c.if-not-follows.false)).0)
 
 pub bounds-to-i : goal.bounds-to-i
-bounds-to-i c = omega (arith, (follows_low c.args.tally.last c.args.tally.same c.args.tally.different c.args.tally.lightpaths (get_or c.args.d.now 2 0) (sym c.follows.ensures ∙ not-false _ c.if-not-follows.false)).0)
+bounds-to-i c = omega (arith, (follows_low c.args.tally.last c.args.tally.same c.args.tally.different c.args.tally.lightpaths (get_or c.args.d.now 2 0) (sym c.follows.ensures ∙ c.if-not-follows.false)).0)
 
 pub route_no-requires : goal.route_no-requires
 route_no-requires c =
@@ -38,4 +37,4 @@ route_no-requires c =
 pub returns : goal.returns
 returns c =
     al_route _ _ _ _ _ _ _ _ _ _ c.opened_no-no.ensures c.if-no-ne0.false
-    (sym c.follows.ensures ∙ not-false _ c.if-not-follows.false) c.route_no.ensures
+    (sym c.follows.ensures ∙ c.if-not-follows.false) c.route_no.ensures

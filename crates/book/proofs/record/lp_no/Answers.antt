@@ -2,7 +2,6 @@
 -- The route starts five bytes on.
 use native.Mathlib.Omega.{arith}
 use borrow.Author.Rules.{rules}
-use borrow.Author.Tests.{not-true, not-false}
 use mathlib.Core.Path.{sym, ◌∙◌}
 use lib.ListN.{get_or}
 use Rattle.book.proofs.Stations.{ends_low}
@@ -22,15 +21,15 @@ pub bounds-d-4 : goal.bounds-d-4
 bounds-d-4 c = omega (arith, c.opened_no-no.ensures.whole c.if-no-ne0.false)
 
 pub returns-then-not-ends_fit : goal.returns-then-not-ends_fit
-returns-then-not-ends_fit c = lp-ends _ _ _ _ _ _ c.opened_no-no.ensures c.if-no-ne0.false (sym c.ends_fit.ensures ∙ not-true _ c.if-not-ends_fit.true)
+returns-then-not-ends_fit c = lp-ends _ _ _ _ _ _ c.opened_no-no.ensures c.if-no-ne0.false (sym c.ends_fit.ensures ∙ c.if-not-ends_fit.true)
 
 pub route_no-requires : goal.route_no-requires
 route_no-requires c =
-    let t = sym c.ends_fit.ensures ∙ not-false _ c.if-not-ends_fit.false in
+    let t = sym c.ends_fit.ensures ∙ c.if-not-ends_fit.false in
     let e = ends_low c.args.nodes c.args.stations (get_or c.args.d.now 2 0) (get_or c.args.d.now 3 0) t in
     (c.requires.0, c.requires.1, omega (arith, e.0, e.1), omega (arith, e.0, e.1), omega (arith, c.opened_no-no.ensures.whole c.if-no-ne0.false))
 
 pub returns : goal.returns
 returns c =
     lp_route _ _ _ _ _ _ c.opened_no-no.ensures c.if-no-ne0.false
-    (sym c.ends_fit.ensures ∙ not-false _ c.if-not-ends_fit.false) c.route_no.ensures
+    (sym c.ends_fit.ensures ∙ c.if-not-ends_fit.false) c.route_no.ensures

@@ -46,7 +46,7 @@ pub returns-in-At : goal.returns-in-At
 returns-in-At c = no_high _ _ _ _ _ _ _ _ (fits (goal.at.returns-in-At c).Else-d-at) (there (goal.at.returns-in-At c).Else-d-at) _ c.first_high-high.ensures _ c.in-At.is
 
 pub overflow_add-place : goal.overflow_add-place
-overflow_add-place c = omega (arith, (returns-4 (goal.at.overflow_add-place c).In-At).inside)
+overflow_add-place c = omega (arith, (returns-in-At c).inside)
 
 pub first_stray-stray-requires : goal.first_stray-stray-requires
 first_stray-stray-requires c =
@@ -61,7 +61,7 @@ returns-in-At-stray c =
     no_walk _ _ _ _ _ _ _ _ (fits (goal.at.returns-in-At-stray c).Else-d-at) (there (goal.at.returns-in-At-stray c).Else-d-at) _ c.first_high-high.ensures c.in_default.is _ w.0 w.1 _ c.in-At-stray.is
 
 pub overflow_add-place-in-At-stray : goal.overflow_add-place-in-At-stray
-overflow_add-place-in-At-stray c = omega (arith, (returns-5 (goal.at.overflow_add-place-in-At-stray c).In-At-stray).inside)
+overflow_add-place-in-At-stray c = omega (arith, (returns-in-At-stray c).inside)
 
 pub returns : goal.returns
 returns c =

@@ -45,8 +45,8 @@ pub put_lp-requires : goal.put_lp-requires
 put_lp-requires c =
     let a = c.args in
     let k = c.loop-k.k in
-    let n = get_or a.t3.len k 0 in
-    let long = ap length (lent a.t3.route (16 * k) n) ∙ held_row c.requires.0 k c.loop-k-test.true in
+    let n = get_or a.b.len k 0 in
+    let long = ap length (lent a.b.route (16 * k) n) ∙ held_row c.requires.0 k c.loop-k-test.true in
     omega (arith, long, short (goal.at.put_lp-requires c).In-loop-k, room (goal.at.put_lp-requires c).In-loop-k)
 
 pub overflow_add-place : goal.overflow_add-place
@@ -61,7 +61,7 @@ loop-k-preserved c =
     let p = c.requires in
     let k = c.loop-k.k in
     rw c.put_lp.ensures
-    (putting_next _ _ _ c.loop-k.invariant c.loop-k-test.true p.0 p.1 _ (lent a.t3.route (16 * k) (get_or a.t3.len k 0)))
+    (putting_next _ _ _ c.loop-k.invariant c.loop-k-test.true p.0 p.1 _ (lent a.b.route (16 * k) (get_or a.b.len k 0)))
 
 pub shape_of-out : goal.shape_of-out
 shape_of-out c = c.loop-k.invariant.long

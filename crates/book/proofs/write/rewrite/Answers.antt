@@ -8,22 +8,24 @@ use Prim.Native.Nat.{ℕ, ◌+◌, ◌-◌, ◌*◌, ◌≤◌}
 use lib.ListN.{length, drop, length-take}
 use Rattle.book.specs.Format.{bytes_of, lp_bytes}
 use Rattle.book.specs.Memory.{laid}
+use Rattle.book.specs.declared.Book.{Book}
 use Rattle.book.specs.Inside.{with_lightpaths}
 use Rattle.book.proofs.Routes.{part}
 use Rattle.book.proofs.Rewrites.{old_fit, total_low, rewritten, too_short}
 use Rattle.book.proofs.write.rewrite.Goals as goal
 use Rattle.book.proofs.write.rewrite.Goals.{After-lightpaths_len, After-lightpaths_len-2}
 
--- where the LP records end in the old book, from the first count on; and how long the new book is, from the second
-module _ (c : After-lightpaths_len) where
-  abbrev first : ℕ
-  first = 6 + 3 * c.args.old.nodes + 5 * c.args.old.spans
+-- where the LP records begin
+abbrev first : Book → ℕ
+first b = 6 + 3 * b.nodes + 5 * b.spans
 
-  fit : first + c.lightpaths_len.result ≤ length c.args.s.now
+-- where they end in the old book, from the first count on; and how long the new book is, from the second
+module _ (c : After-lightpaths_len) where
+  fit : first c.args.old + c.lightpaths_len.result ≤ length c.args.s.now
   fit = let p = c.requires in old_fit p.are (c.lightpaths_len.ensures p.book p.are.read.held) refl
 
 module _ (c : After-lightpaths_len-2) where
-  low : first c.After-lightpaths_len + c.lightpaths_len-2.result + (length c.args.s.now - (first c.After-lightpaths_len + c.lightpaths_len.result)) ≤ 3976
+  low : first c.args.old + c.lightpaths_len-2.result + (length c.args.s.now - (first c.args.old + c.lightpaths_len.result)) ≤ 3976
   low =
       let p = c.requires in
       total_low p.are (c.lightpaths_len.ensures p.book p.are.read.held) (c.lightpaths_len-2.ensures (with_lightpaths p.book p.lightpaths) p.are.new_is)
@@ -46,11 +48,11 @@ returns-then-out-total c = λ m lps r.
 
 pub slice_bounds-put-end : goal.slice_bounds-put-end
 slice_bounds-put-end c =
-    omega (arith, fit (goal.at.slice_bounds-put-end c).After-lightpaths_len, length-take (first (goal.at.slice_bounds-put-end c).After-lightpaths_len) c.args.s.now)
+    omega (arith, fit (goal.at.slice_bounds-put-end c).After-lightpaths_len, length-take (first c.args.old) c.args.s.now)
 
 pub put-requires : goal.put-requires
 put-requires c =
-    omega (arith, c.if-out-total.false, length-take (first (goal.at.put-requires c).After-lightpaths_len) c.args.s.now)
+    omega (arith, c.if-out-total.false, length-take (first c.args.old) c.args.s.now)
 
 pub put_lightpaths-requires : goal.put_lightpaths-requires
 put_lightpaths-requires c =
@@ -65,11 +67,11 @@ slice_bounds-put-start c = fit (goal.at.slice_bounds-put-start c).After-lightpat
 pub returns : goal.returns
 returns c = λ m lps r.
     let a = c.args in
-    let old-end = first (goal.at.returns c).After-lightpaths_len + c.lightpaths_len.result in
-    let new-end = first (goal.at.returns c).After-lightpaths_len + c.lightpaths_len-2.result in
+    let old_end = first c.args.old + c.lightpaths_len.result in
+    let new_end = first c.args.old + c.lightpaths_len-2.result in
     let w = rewritten r (c.lightpaths_len.ensures m r.read.held) (c.lightpaths_len-2.ensures (with_lightpaths m lps) r.new_is) a.out.now c.if-out-total.false in (
       w.0,
-      c.put-2.ensures ∙ ap (laid _ new-end) (part a.s.now old-end)
-          ∙ ap (λ (l : List ℕ). laid l new-end (drop old-end a.s.now)) (c.put_lightpaths.ensures (with_lightpaths m lps) r.new_is r.new_fits ∙ ap (λ (l : List ℕ). laid l (first (goal.at.returns c).After-lightpaths_len) (bytes_of lp_bytes lps)) c.put.ensures)
+      c.put-2.ensures ∙ ap (laid _ new_end) (part a.s.now old_end)
+          ∙ ap (λ (l : List ℕ). laid l new_end (drop old_end a.s.now)) (c.put_lightpaths.ensures (with_lightpaths m lps) r.new_is r.new_fits ∙ ap (λ (l : List ℕ). laid l (first c.args.old) (bytes_of lp_bytes lps)) c.put.ensures)
           ∙ w.1,
     )

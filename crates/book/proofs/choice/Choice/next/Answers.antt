@@ -11,10 +11,10 @@ use lib.ListN.{get_or}
 use Rattle.book.proofs.Digits.{Stepping, stepping_start, stepping_hit, stepping_next, stepping_end, same}
 use borrow.Author.Rules.{rules}
 use Rattle.book.proofs.choice.Choice.next.Goals as goal
-use Rattle.book.proofs.choice.Choice.next.Goals.{After-d-1}
+use Rattle.book.proofs.choice.Choice.next.Goals.{After-d-1-unread}
 
 -- digit i is a byte, since it is as it was
-byte : (c : After-d-1) → get_or c.loop-i.c.digits c.loop-i.i 0 ≤ 255
+byte : (c : After-d-1-unread) → get_or c.loop-i.c.digits c.loop-i.i 0 ≤ 255
 byte c =
     let l = c.loop-i in
     let z : Fits w8 (get_or c.args.self.digits l.i 0) = search rules in
@@ -24,10 +24,10 @@ pub loop-i-init : goal.loop-i-init
 loop-i-init c = stepping_start _ _ (search rules) (search rules)
 
 pub overflow_cast-up : goal.overflow_cast-up
-overflow_cast-up c = omega (arith, byte (goal.at.overflow_cast-up c).After-d-1)
+overflow_cast-up c = omega (arith, byte c)
 
 pub overflow_add-up : goal.overflow_add-up
-overflow_add-up c = omega (arith, byte (goal.at.overflow_add-up c).After-d-1)
+overflow_add-up c = omega (arith, byte c)
 
 pub returns-then-up-size : goal.returns-then-up-size
 returns-then-up-size c =
