@@ -1,0 +1,8 @@
+-- The words have the nodes met, so the first node that is down in them is the book's: `site-in`.
+use borrow.Author.Rules.{rules}
+use mathlib.Core.Path.{◌∙◌}
+use Rattle.judgement.proofs.MetWords.{site-in}
+use Rattle.judgement.proofs.node.closed_of.Goals as goal
+
+pub returns : goal.returns
+returns c m e good = rw (c.first_down.ensures ∙ site-in m good e c.met_by-words.ensures)

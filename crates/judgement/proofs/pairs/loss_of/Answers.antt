@@ -1,0 +1,35 @@
+-- The rows lead as the lightpaths do that lack the span, so what grows by them is the side with the span out, and the lightpaths counted are its pairs.
+-- Where that side is the set of stations, which has all ends, there are none: `none_apart`.
+use borrow.Author.Rules.{rules}
+use mathlib.Core.Path.{◌≡◌, sym, ◌∙◌}
+use native.Mathlib.Omega.{arith}
+use lib.Count.{count_trailing_zeros}
+use Rattle.judgement.specs.Network.{side_of}
+use Rattle.judgement.specs.Inside.{net_of, up_of, unset}
+use Rattle.judgement.proofs.Tables.{table_side}
+use Rattle.judgement.proofs.Apart.{parted_sum}
+use Rattle.judgement.proofs.Known.{none_apart}
+use Rattle.judgement.proofs.pairs.loss_of.Goals as goal
+
+pub grow-known-requires : goal.grow-known-requires
+grow-known-requires c = (omega (arith, c.lowest.ensures, c.requires.0), record { net = _; up = _; led = c.rows_of_lem.ensures })
+
+-- what has grown
+module _ (g : tie.After-grow) where
+  by_array : g.grow.result.mask ≡ side_of (net_of g.before.before.before.before.before.before.args.n g.before.before.before.before.before.before.args.from.now g.before.before.before.before.before.before.args.to.now) (up_of g.before.before.before.before.before.up-without.result) 64 (count_trailing_zeros 64 g.before.before.before.before.before.before.args.stations)
+  by_array = rw (← g.before.before.lowest.ensures) (g.grow.ensures _ _ g.before.before.before.rows_of_lem.ensures)
+
+  by_words : g.grow.result.mask ≡ side_of (net_of g.before.before.before.before.before.before.args.n g.before.before.before.before.before.before.args.from.now g.before.before.before.before.before.before.args.to.now) (unset g.before.before.before.before.before.before.args.words.now g.before.before.before.before.before.before.args.bit) 64 (count_trailing_zeros 64 g.before.before.before.before.before.before.args.stations)
+  by_words = by_array ∙ table_side _ g.before.before.before.before.before.before.args.n g.before.before.before.before.before.before.args.from.now g.before.before.before.before.before.before.args.to.now g.before.before.before.before.before.before.pre.1.few g.before.before.before.before.before.up-without.ensures 64 (count_trailing_zeros 64 g.before.before.before.before.before.before.args.stations)
+
+pub returns-then-known-stations : goal.returns-then-known-stations
+returns-then-known-stations c =
+    (by_words (goal.at.returns-then-known-stations c).After-grow-known, none_apart c.args.words.now c.args.bit c.requires.1 (record { start = _; low = c.requires.0; is = sym c.if-known-stations.true ∙ by_words (goal.at.returns-then-known-stations c).After-grow-known }) c.requires.4)
+
+pub apart_on-pairs-requires : goal.apart_on-pairs-requires
+apart_on-pairs-requires c =
+    (c.requires.1, search rules, c.rows_of_lem.ensures, record { start = _; low = c.requires.0; is = by_array (goal.at.apart_on-pairs-requires c).After-grow-known })
+
+pub returns : goal.returns
+returns c =
+    (by_words (goal.at.returns c).After-grow-known, parted_sum c.args.n c.args.from.now c.args.to.now c.args.words.now c.args.bit c.requires.1.few c.up_without-up.ensures c.apart_on-pairs.ensures)

@@ -1,0 +1,38 @@
+-- The side grows as in `grow`. What it holds so far is in the whole side, so that a node found in it is joined; and when all its nodes are taken it is
+-- the whole side, so that a node not found in it is not.
+use borrow.Author.Rules.{rules}
+use mathlib.Core.Path.{sym}
+use mathlib.Core.Bool.{Bool}
+use Prim.Native.Nat.{ℕ, ◌-◌}
+use Rattle.book.proofs.Bits.{put_zero}
+use Rattle.judgement.specs.Network.{Network}
+use Rattle.judgement.specs.Inside.{Led, size}
+use Rattle.judgement.proofs.Joins.{in_side}
+use Rattle.judgement.proofs.Worklist.{Working, working_start, next_lt, taken_once, working_next, working_end}
+use Rattle.judgement.proofs.side.reaches.Goals as goal
+
+pub loop-g-init : goal.loop-g-init
+loop-g-init c net up w = rw (c.from-g.ensures, put_zero) (working_start 64 net up _ w.ends c.requires.0)
+
+pub returns-then-has : goal.returns-then-has
+returns-then-has c net up w =
+    let g = c.loop-g in
+    sym (in_side net up 64 w.ends _ g.g.side.mask _ c.requires.0 (g.invariant net up w).growing (rw (← c.has.ensures) c.if-has.true))
+
+pub take-g-requires : goal.take-g-requires
+take-g-requires c =
+    let some = c.requires.2 in
+    (some.led.leads.long, next_lt _ _ _ _ (c.loop-g.invariant _ _ some.led) c.loop-g-test.true)
+
+pub loop-g-smaller : goal.loop-g-smaller
+loop-g-smaller c =
+    let some = c.requires.2 in
+    rw c.take-g.ensures (taken_once _ _ _ _ (c.loop-g.invariant _ _ some.led) c.loop-g-test.true)
+
+pub loop-g-preserved : goal.loop-g-preserved
+loop-g-preserved c net up w =
+    rw c.take-g.ensures (working_next 64 net up _ (c.loop-g.invariant net up w) c.loop-g-test.true w.leads)
+
+pub returns : goal.returns
+returns c net up w =
+    rw (c.has-2.ensures, working_end 64 net up _ w.ends c.requires.0 (c.loop-g.invariant net up w) c.loop-g-test.false)
