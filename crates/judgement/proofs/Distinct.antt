@@ -8,11 +8,12 @@ use mathlib.Core.Bool.{Bool, true, false, cond, false≢true}
 use Rattle.book.specs.Bits.{bit, has}
 use Rattle.book.proofs.Bits.{has_true, true_has}
 use Rattle.judgement.specs.Network.{Network}
-use Rattle.judgement.specs.Ways.{Runs, In, now, later, Distinct, empty, extra, Way, hop, near, way}
+use Rattle.judgement.specs.Ways.{Runs, In, now, later, Distinct, empty, extra, Way, here, hop, near, way}
 use Rattle.judgement.proofs.FirstWays.{near_kept, step_of, step_to, step_is}
 
 -- what is used may be used
 pub way_free : (net : Network) (free : ℕ → Bool) {x y : ℕ} {ks : List ℕ} → Way net free x ks y → (k : ℕ) → In k ks → free k ≡ true
+way_free net free here k i = elim i [ ]
 way_free net free (hop l f r w) k now = f
 way_free net free (hop l f r w) k (later i) = way_free net free w k i
 

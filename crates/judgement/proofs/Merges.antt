@@ -28,12 +28,22 @@ use Rattle.judgement.proofs.Rounds.{near_all}
 use Rattle.judgement.proofs.Distinct.{way_free, way_distinct}
 
 -- of two lists that each come before the other the one is the other
+lex_same : {ks js is ls : List ℕ} → Lex ks js → Lex is ls → js ≡ is → ks ≡ ls → ks ≡ js
+lex_same none none p q = refl
+lex_same none (less l) p q = cc
+lex_same none (same w) p q = cc
+lex_same (less l) none p q = cc
+lex_same (same v) none p q = cc
+lex_same (less {k = k} {j = j} l) (less {k = h} {j = i} w) p q = let a : j ≡ h = cc in let b : k ≡ i = cc in absurd (omega arith)
+lex_same (less {k = k} {j = j} l) (same {k = h} w) p q = let a : j ≡ h = cc in let b : k ≡ h = cc in absurd (omega arith)
+lex_same (same {k = k} v) (less {k = h} {j = i} w) p q = let a : k ≡ h = cc in let b : k ≡ i = cc in absurd (omega arith)
+lex_same (same {k = k} {ks = ks} {js = js} v) (same {ks = is} {js = ls} w) p q =
+    let e : js ≡ is = cc in
+    let f : ks ≡ ls = cc in
+    ap (λ (xs : List ℕ). k ∷ xs) (lex_same v w e f)
+
 lex_once : {ks js : List ℕ} → Lex ks js → Lex js ks → ks ≡ js
-lex_once none none = refl
-lex_once (less l) (less q) = absurd (omega arith)
-lex_once (less l) (same q) = absurd (omega arith)
-lex_once (same l) (less q) = absurd (omega arith)
-lex_once (same {k = k} l) (same q) = ap (λ (is : List ℕ). k ∷ is) (lex_once l q)
+lex_once l q = lex_same l q refl refl
 
 before_once : {ks js : List ℕ} → Before ks js → Before js ks → ks ≡ js
 before_once (inl l) (inl q) = absurd (omega arith)

@@ -24,7 +24,7 @@ fn fitted(n: u64) -> Parsed
 }
 
 // What a word is with one digit more, which has the value d, by what it is without it.
-fn with_value_lem(p: Parsed, d: u8) -> Parsed
+fn with_value(p: Parsed, d: u8) -> Parsed
     ensures { result ≡ with_value p d }
 {
     match p {
@@ -43,7 +43,7 @@ fn with_byte(p: Parsed, c: u8) -> Parsed
         return Parsed::NotDigits;
     }
     if c < 58 {
-        return with_value_lem(p, c - 48);
+        return with_value(p, c - 48);
     }
     Parsed::NotDigits
 }

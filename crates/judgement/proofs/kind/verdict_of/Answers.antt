@@ -14,7 +14,7 @@ use Rattle.judgement.proofs.kind.verdict_of.Goals.{Else-not-usable}
 -- where the struct is usable
 module _ (c : Else-not-usable) where
   passed : Usable c.args.b
-  passed = record { is = sym c.usable.ensures ∙ not-false _ c.if-not-usable.false }
+  passed = record { is = sym c.usable.ensures ∙ c.if-not-usable.false }
 
   judged : over_or_in c.args.b ≡ verdict_in c.args.b
   judged = sym (ap (λ (t : Bool). cond t (over_or_in c.args.b) (Split 0)) passed.is)

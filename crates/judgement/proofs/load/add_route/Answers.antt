@@ -10,6 +10,7 @@ use Rattle.judgement.specs.Holding.{Counted}
 use Rattle.book.proofs.Once.{count_most}
 use Rattle.judgement.proofs.Loads.{counted_start, counted_next, counted_past, counted_done}
 use Rattle.judgement.proofs.load.add_route.Goals as goal
+use Rattle.judgement.proofs.load.add_route.Goals.{then-x-lt128, else-x-lt128}
 
 pub loop-j-init : goal.loop-j-init
 loop-j-init c = (search rules, counted_start _ c.args.route.now c.requires.long)
@@ -31,7 +32,7 @@ loop-j-preserved c =
     let t = c.loop-j-test.true in
     let counts = Counted c.args.loads.now (take (l.j + 1) r) in (
       search rules,
-      ⊎_elim (λ w. subst counts (sym w.2) (counted_next _ r t l.invariant.1 w.0.taken)) (λ w. subst counts (sym w.1) (counted_past _ r t l.invariant.1 w.0.left)) c.if-x-lt128.branch,
+      elim c.if-x-lt128.branch [ then-x-lt128 w ↦ subst counts (sym w.loads-is) (counted_next _ r t l.invariant.1 w.if-x-lt128.true) | else-x-lt128 w ↦ subst counts (sym w.loads-is) (counted_past _ r t l.invariant.1 w.if-x-lt128.false) ],
     )
 
 pub returns : goal.returns

@@ -9,10 +9,7 @@ use Rattle.judgement.proofs.Sums.{sum_next}
 use Rattle.judgement.proofs.Usable.{held_spans}
 use Rattle.judgement.proofs.Excess.{excess_in, excess_is, excess_low}
 use Rattle.judgement.proofs.load.excess.Goals as goal
-use Rattle.judgement.proofs.load.excess.Goals.{After-above-total, In-loop-k}
-
-low : (c : In-loop-k) → c.loop-k.k < 128
-low c = omega (arith, c.loop-k-test.true, held_spans c.requires.0)
+use Rattle.judgement.proofs.load.excess.Goals.{After-above-total}
 
 -- the total with this span
 next : (c : After-above-total)
@@ -28,10 +25,10 @@ unfolding sum
 loop-k-init c = (zero-le, refl)
 
 pub bounds-loads-k : goal.bounds-loads-k
-bounds-loads-k c = low (goal.at.bounds-loads-k c).In-loop-k
+bounds-loads-k c = omega (arith, c.loop-k-test.true, held_spans c.requires.0)
 
 pub bounds-b-k : goal.bounds-b-k
-bounds-b-k c = low c
+bounds-b-k c = omega (arith, c.loop-k-test.true, held_spans c.requires.0)
 
 pub overflow_add-total : goal.overflow_add-total
 overflow_add-total c =

@@ -10,19 +10,15 @@ use Rattle.judgement.proofs.First.{Looking, looking_start, looking_next, looking
 use Rattle.judgement.proofs.Usable.{usable_spans}
 use Rattle.judgement.proofs.Excess.{over_in, at_in, over_is}
 use Rattle.judgement.proofs.load.first_over.Goals as goal
-use Rattle.judgement.proofs.load.first_over.Goals.{In-loop-k}
-
-low : (c : In-loop-k) → c.loop-k.k < 128
-low c = omega (arith, c.loop-k-test.true, usable_spans c.requires.0)
 
 pub loop-k-init : goal.loop-k-init
 loop-k-init c = looking_start _ _ _ _
 
 pub bounds-loads-k : goal.bounds-loads-k
-bounds-loads-k c = low (goal.at.bounds-loads-k c).In-loop-k
+bounds-loads-k c = omega (arith, c.loop-k-test.true, usable_spans c.requires.0)
 
 pub bounds-b-k : goal.bounds-b-k
-bounds-b-k c = low c
+bounds-b-k c = omega (arith, c.loop-k-test.true, usable_spans c.requires.0)
 
 pub returns-then-w-l : goal.returns-then-w-l
 returns-then-w-l c =

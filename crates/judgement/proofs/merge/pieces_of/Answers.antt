@@ -23,14 +23,13 @@ pub end_labels-to-requires : goal.end_labels-to-requires
 end_labels-to-requires c = (usable_fits (held_usable c.requires) (search rules) (search rules)).to_low
 
 -- the book that the struct holds, and what holds of it at each turn
-now : (l : At-loop-touched) → Going l.before.before.before.before.requires.book l.loop.label l.loop.merges
-now l = let h = l.before.before.before.before.requires in l.loop.invariant h.book h.is h.fits
+now : (l : At-loop-touched) → Going l.requires.book l.loop-touched.label l.loop-touched.merges
+now l = let h = l.requires in l.loop-touched.invariant h.book h.is h.fits
 
-labels_fit : (t : After-end_labels-to)
-    → Fits t.before.before.before.before.before.before.args.t1.lightpaths t.before.end-labels.result t.end-labels2.result
+labels_fit : (t : After-end_labels-to) → Fits t.args.b.lightpaths t.end_labels-from.result t.end_labels-to.result
 labels_fit t =
-    let h = t.before.before.before.before.before.before.requires in
-    going_fits h.book h.fits h.is (now t.before.before) t.before.end-labels.ensures t.end-labels2.ensures
+    let h = t.requires in
+    going_fits h.book h.fits h.is (t.loop-touched.invariant h.book h.is h.fits) t.end_labels-from.ensures t.end_labels-to.ensures
 
 pub first_ring-ring-requires : goal.first_ring-ring-requires
 first_ring-ring-requires c = (labels_fit (goal.at.first_ring-ring-requires c).After-end_labels-to, record { low_long = search rules; high_long = search rules })
@@ -41,8 +40,8 @@ relabel-next-requires c =
     going_low h.book h.fits (now (goal.at.relabel-next-requires c).At-loop-touched)
 
 -- the sum of the labels leaves room for one merge more
-room : (l : At-loop-touched) → l.loop.merges ≤ 4032
-room l = let h = l.before.before.before.before.requires in going_room h.book h.fits (now l)
+room : (l : At-loop-touched) → l.loop-touched.merges ≤ 4032
+room l = let h = l.requires in going_room h.book h.fits (now l)
 
 pub overflow_add-merges : goal.overflow_add-merges
 overflow_add-merges c = omega (arith, room (goal.at.overflow_add-merges c).At-loop-touched)

@@ -15,7 +15,7 @@ one_label-requires c = c.requires _
 
 pub loop-i-preserved : goal.loop-i-preserved
 loop-i-preserved c =
-    let is = rw c.lowest-lowest.ensures at c.one_Label.ensures in
+    let is = rw c.lowest-lowest.ensures at c.one_label.ensures in
     (search rules, filled_next _ _ (search rules) is c.loop-i.invariant.1)
 
 pub returns : goal.returns

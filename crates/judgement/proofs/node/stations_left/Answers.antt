@@ -5,7 +5,7 @@ use borrow.Author.Tests.{not-true, not-false}
 use Rattle.judgement.proofs.node.stations_left.Goals as goal
 
 pub returns-then-not-has : goal.returns-then-not-has
-returns-then-not-has c = rw (sym c.has.ensures ∙ not-true c.has.result c.if-not-has.true)
+returns-then-not-has c = rw (sym c.has.ensures ∙ c.if-not-has.true)
 
 pub returns : goal.returns
-returns c = rw (sym c.has.ensures ∙ not-false c.has.result c.if-not-has.false, c.beyond.ensures, c.with.ensures)
+returns c = rw (sym c.has.ensures ∙ c.if-not-has.false, c.beyond.ensures, c.with.ensures)

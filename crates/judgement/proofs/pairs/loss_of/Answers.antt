@@ -10,17 +10,18 @@ use Rattle.judgement.proofs.Tables.{table_side}
 use Rattle.judgement.proofs.Apart.{parted_sum}
 use Rattle.judgement.proofs.Known.{none_apart}
 use Rattle.judgement.proofs.pairs.loss_of.Goals as goal
+use Rattle.judgement.proofs.pairs.loss_of.Goals.{After-grow-known}
 
 pub grow-known-requires : goal.grow-known-requires
-grow-known-requires c = (omega (arith, c.lowest.ensures, c.requires.0), record { net = _; up = _; led = c.rows_of_lem.ensures })
+grow-known-requires c = (omega (arith, c.lowest.ensures, c.requires.0), record { net = _; up = _; led = c.rows_of-rows.ensures })
 
 -- what has grown
-module _ (g : tie.After-grow) where
-  by_array : g.grow.result.mask ≡ side_of (net_of g.before.before.before.before.before.before.args.n g.before.before.before.before.before.before.args.from.now g.before.before.before.before.before.before.args.to.now) (up_of g.before.before.before.before.before.up-without.result) 64 (count_trailing_zeros 64 g.before.before.before.before.before.before.args.stations)
-  by_array = rw (← g.before.before.lowest.ensures) (g.grow.ensures _ _ g.before.before.before.rows_of_lem.ensures)
+module _ (g : After-grow-known) where
+  by_array : g.grow-known.result.mask ≡ side_of (net_of g.args.n g.args.from.now g.args.to.now) (up_of g.up_without-up.result) 64 (count_trailing_zeros 64 g.args.stations)
+  by_array = rw (← g.lowest.ensures) (g.grow-known.ensures _ _ g.rows_of-rows.ensures)
 
-  by_words : g.grow.result.mask ≡ side_of (net_of g.before.before.before.before.before.before.args.n g.before.before.before.before.before.before.args.from.now g.before.before.before.before.before.before.args.to.now) (unset g.before.before.before.before.before.before.args.words.now g.before.before.before.before.before.before.args.bit) 64 (count_trailing_zeros 64 g.before.before.before.before.before.before.args.stations)
-  by_words = by_array ∙ table_side _ g.before.before.before.before.before.before.args.n g.before.before.before.before.before.before.args.from.now g.before.before.before.before.before.before.args.to.now g.before.before.before.before.before.before.pre.1.few g.before.before.before.before.before.up-without.ensures 64 (count_trailing_zeros 64 g.before.before.before.before.before.before.args.stations)
+  by_words : g.grow-known.result.mask ≡ side_of (net_of g.args.n g.args.from.now g.args.to.now) (unset g.args.words.now g.args.bit) 64 (count_trailing_zeros 64 g.args.stations)
+  by_words = by_array ∙ table_side _ g.args.n g.args.from.now g.args.to.now g.requires.1.few g.up_without-up.ensures 64 (count_trailing_zeros 64 g.args.stations)
 
 pub returns-then-known-stations : goal.returns-then-known-stations
 returns-then-known-stations c =
@@ -28,7 +29,7 @@ returns-then-known-stations c =
 
 pub apart_on-pairs-requires : goal.apart_on-pairs-requires
 apart_on-pairs-requires c =
-    (c.requires.1, search rules, c.rows_of_lem.ensures, record { start = _; low = c.requires.0; is = by_array (goal.at.apart_on-pairs-requires c).After-grow-known })
+    (c.requires.1, search rules, c.rows_of-rows.ensures, record { start = _; low = c.requires.0; is = by_array (goal.at.apart_on-pairs-requires c).After-grow-known })
 
 pub returns : goal.returns
 returns c =

@@ -14,13 +14,9 @@ pub up_with-up-requires : goal.up_with-up-requires
 up_with-up-requires c = (search rules, search rules, usable_lightpaths c.requires)
 
 -- the arrays of ends have their lengths, as every array has
-long : (c : tie.After-b) → (length c.before.before.args.t1.from ≡ 96) × (length c.before.before.args.t1.to ≡ 96)
-long c = (search rules, search rules)
-
 pub side_of-requires : goal.side_of-requires
 side_of-requires c =
-    let ends = long (goal.at.side_of-requires c).Start in
-    (omega (arith, c.lowest-start.ensures, usable_start c.requires), usable_fits c.requires ends.0 ends.1, search rules)
+    (omega (arith, c.lowest-start.ensures, usable_start c.requires), usable_fits c.requires (search rules) (search rules), search rules)
 
 pub returns : goal.returns
 returns c =

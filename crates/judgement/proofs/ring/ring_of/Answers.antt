@@ -41,7 +41,7 @@ module _ (c : Else-not-has) where
       c.args.to.now
 
   met_last : has (near net (but k) (net.to k) c.rounds_to-r.result.last) (net.from k) ≡ true
-  met_last = last_met c.rounds_to-r.ensures c.has.ensures ∙ not-false _ c.if-not-has.false
+  met_last = last_met c.rounds_to-r.ensures c.has.ensures ∙ c.if-not-has.false
 
   met_all : has (near net (but k) (net.to k) 64) (net.from k) ≡ true
   met_all = c.rounds_to-r.ensures.met ∙ met_last

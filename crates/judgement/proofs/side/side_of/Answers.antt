@@ -3,7 +3,7 @@ use borrow.Author.Rules.{rules}
 use Rattle.judgement.proofs.side.side_of.Goals as goal
 
 pub grow-requires : goal.grow-requires
-grow-requires c = (c.requires.0, record { net = _; up = _; led = c.rows_of_lem.ensures })
+grow-requires c = (c.requires.0, record { net = _; up = _; led = c.rows_of-rows.ensures })
 
 pub returns : goal.returns
-returns c = c.grow.ensures _ _ c.rows_of_lem.ensures
+returns c = c.grow.ensures _ _ c.rows_of-rows.ensures

@@ -19,7 +19,7 @@ use Rattle.judgement.proofs.First.{Back, back_start, back_hit, back_miss, back_e
 use Rattle.judgement.proofs.Sums.{sum_next, sum_none}
 use Rattle.judgement.proofs.Apart.{apart_most}
 use Rattle.judgement.proofs.walk.walk.Goals as goal
-use Rattle.judgement.proofs.walk.walk.Goals.{After-struct_known-in-loop-i-1}
+use Rattle.judgement.proofs.walk.walk.Goals.{After-struct_known-in-loop-i-1, then-loss-b, else-loss-b}
 
 -- one span more: its side, its number, and the pairs so far
 module _ (c : After-struct_known-in-loop-i-1) where
@@ -71,10 +71,10 @@ overflow_add-pairs c =
 pub loop-i-preserved : goal.loop-i-preserved
 loop-i-preserved c =
     let l = c.loop-i in (
-      ⊎_elim
-          (λ w. subst (Lowest c) (sym (w.1 ∙ ap (At (c.args.base + i c)) (side_is c))) (back_hit _ _ _ l.invariant.0 (i c) (next c) (ap not (ne_eqb _ _ (λ e. w.0.taken (side_is c ∙ e))))))
-          (λ w. subst (Lowest c) (sym w.1) (back_miss _ _ _ l.invariant.0 (i c) (next c) (ap not (eq-eqb _ _ (sym (side_is c) ∙ w.0.left)))))
-          c.if-loss-b.branch,
+      elim c.if-loss-b.branch [
+        | then-loss-b w ↦ subst (Lowest c) (sym (w.parted-is ∙ ap (At (c.args.base + i c)) (side_is c))) (back_hit _ _ _ l.invariant.0 (i c) (next c) (ap not (ne_eqb _ _ (λ e. w.if-loss-b.true (side_is c ∙ e)))))
+        | else-loss-b w ↦ subst (Lowest c) (sym w.parted-is) (back_miss _ _ _ l.invariant.0 (i c) (next c) (ap not (eq-eqb _ _ (sym (side_is c) ∙ w.if-loss-b.false))))
+      ],
       counted c,
     )
 
