@@ -1,0 +1,13 @@
+-- What is stored are the numbers of the answer, and the answer is that of the operation.
+use mathlib.Core.Path.{ap, ◌∙◌}
+use mathlib.Core.List.{List}
+use Prim.Native.Nat.{ℕ}
+use Rattle.face.specs.Numbers.{stored, asked_row}
+use borrow.Author.Rules.{rules}
+use Rattle.face.proofs.gristvalley_ask_set.Goals as goal
+
+pub returns : goal.returns
+returns c =
+    let out = c.args.out.now in
+    let s = c.store.ensures in
+    (s.0, s.1 ∙ ap (λ (x : List ℕ). stored x out) (c.asked_row-row.ensures ∙ ap asked_row c.ask_set-answer.ensures))

@@ -1,0 +1,16 @@
+-- After i bytes, what they are, taken on with the bytes that are left, is what the word is.
+use Prim.Native.Nat.{◌+◌, ◌-◌, ◌≤◌, zero-le}
+use mathlib.Core.Path.{◌≡◌, refl, sym, ap, ◌∙◌}
+use native.Mathlib.Omega.{arith}
+use lib.ListN.{length, drop}
+use Rattle.listing.specs.declared.number.Parsed.{Parsed}
+use Rattle.listing.specs.declared.number.Parsed.TheVariants.{Empty}
+use Rattle.listing.proofs.Numbers.{taken_on, on_next, on_done, on_empty}
+use borrow.Author.Rules.{rules}
+use Rattle.listing.proofs.number.parse.Given as goal
+
+abbrev pub invariant-loop-i : goal.invariant-loop-i
+invariant-loop-i l = (l.i ≤ length l.word) × (taken_on l.p (drop l.i l.word) ≡ taken_on Empty l.word)
+
+abbrev pub decreases-loop-i : goal.decreases-loop-i
+decreases-loop-i l = length l.word - l.i

@@ -1,0 +1,14 @@
+-- Each turn writes the digit at one power of the base, from the first power on; after the last there is none left.
+use Prim.Native.Nat.{ℕ, ◌-◌, ◌/◌, ◌^◌, ◌<◌}
+use mathlib.Core.Path.{◌≡◌}
+use native.Mathlib.Nat.{mod-lt, div-lt_self}
+use native.Mathlib.Omega.{arith}
+use Rattle.listing.proofs.Spelling.{Spelled, spelled_start, spelled_next, spelled_done}
+use borrow.Author.Rules.{rules}
+use Rattle.listing.proofs.text.Text.digits.Given as goal
+
+abbrev pub invariant-loop-q : goal.invariant-loop-q
+invariant-loop-q l = (k : ℕ) → 0 < k → l.p ≡ l.base ^ (k - 1) → Spelled l.initial.t l.n l.base k l.t l.q
+
+abbrev pub decreases-loop-q : goal.decreases-loop-q
+decreases-loop-q l = l.q

@@ -1,0 +1,16 @@
+-- After j turns the text has the first j bytes of the word more.
+use Prim.Native.Nat.{ℕ, ◌-◌, ◌≤◌, zero-le}
+use mathlib.Core.Path.{sym, ap, ◌∙◌}
+use native.Mathlib.Numerals.{add-one}
+use lib.ListN.{length, take}
+use lib.Seq.{take-suc, take_all}
+use Rattle.listing.specs.Inside.{Adds}
+use Rattle.listing.proofs.Texts.{adds_none, adds_then, adds_as}
+use borrow.Author.Rules.{rules}
+use Rattle.listing.proofs.text.Text.word.Given as goal
+
+abbrev pub invariant-loop-j : goal.invariant-loop-j
+invariant-loop-j l = (l.j ≤ length l.w) × Adds l.initial.t (take l.j l.w) l.t
+
+abbrev pub decreases-loop-j : goal.decreases-loop-j
+decreases-loop-j l = length l.w - l.j
