@@ -18,7 +18,7 @@ use Rattle.book.proofs.Written.{such_a_choice, no_such_choice}
 use Rattle.judgement.specs.declared.Verdict.TheVariants.{Okay}
 use Rattle.judgement.specs.declared.Judged.{Judged}
 use Rattle.judgement.specs.declared.Judged.TheVariants as judged
-use Rattle.judgement.specs.Judgement.{verdict, is_okay, acceptable}
+use Rattle.judgement.specs.Judgement.{verdict, is_okay}
 use Rattle.judgement.specs.Cuts.{Survives, CutForm}
 use Rattle.judgement.specs.Answers.{judged_of}
 use Rattle.judgement.proofs.Verdicts.{okay_only}

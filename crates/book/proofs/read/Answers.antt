@@ -1,6 +1,5 @@
 -- A refusal of HD is one of the book; else the rest is read from its counts, and the step that comes back is the reply.
 use native.Mathlib.Omega.{arith}
-use borrow.Author.Rules.{rules}
 use mathlib.Core.Path.{subst, ◌∙◌}
 use Rattle.book.specs.declared.Step.{Step}
 use Rattle.book.specs.Inside.{HoldsBook, Told}

@@ -1,5 +1,4 @@
 -- A refusal is its number and place, with a book of nothing.
-use borrow.Author.Rules.{rules}
 use Rattle.book.proofs.refused.Goals as goal
 
 pub returns : goal.returns

@@ -3,7 +3,6 @@ use mathlib.Core.Path.{ap, ◌∙◌}
 use mathlib.Core.List.{List}
 use Prim.Native.Nat.{ℕ}
 use Rattle.face.specs.Numbers.{stored, judged_row}
-use borrow.Author.Rules.{rules}
 use Rattle.face.proofs.gristvalley_judge.Goals as goal
 
 pub returns : goal.returns

@@ -4,7 +4,6 @@ use mathlib.Core.List.{List}
 use Prim.Native.Nat.{ℕ}
 use Rattle.book.specs.declared.Reply.{Reply}
 use Rattle.face.specs.Numbers.{stored, reply_row}
-use borrow.Author.Rules.{rules}
 use Rattle.face.proofs.gristvalley_read.Goals as goal
 
 pub returns : goal.returns

@@ -4,7 +4,6 @@ use native.Mathlib.Omega.{arith}
 use Rattle.book.proofs.Stages.{all_bytes}
 use Rattle.judgement.specs.Answers.{asked_of}
 use Rattle.judgement.proofs.Opened.{good_held, good_told, refused_told}
-use borrow.Author.Rules.{rules}
 use Rattle.judgement.proofs.ask.Goals as goal
 
 pub asked_of-requires : goal.asked_of-requires

@@ -4,7 +4,6 @@ use native.Mathlib.Omega.{arith}
 use Rattle.book.proofs.Stages.{all_bytes}
 use Rattle.judgement.specs.Contraction.{contracted_of}
 use Rattle.judgement.proofs.Opened.{good_held, good_told, refused_told}
-use borrow.Author.Rules.{rules}
 use Rattle.judgement.proofs.contract.Goals as goal
 
 pub contracted_of-requires : goal.contracted_of-requires

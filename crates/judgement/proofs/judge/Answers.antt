@@ -4,7 +4,6 @@ use native.Mathlib.Omega.{arith}
 use Rattle.book.proofs.Stages.{all_bytes}
 use Rattle.judgement.specs.Answers.{judged_of}
 use Rattle.judgement.proofs.Opened.{good_held, good_told, refused_told}
-use borrow.Author.Rules.{rules}
 use Rattle.judgement.proofs.judge.Goals as goal
 
 pub judged_of-requires : goal.judged_of-requires

@@ -4,7 +4,6 @@ use mathlib.Core.List.{◌++◌}
 use Rattle.search.specs.declared.Finding.{Finding}
 use Rattle.listing.specs.Report.{finding_line, moves_of}
 use Rattle.listing.proofs.Texts.{adds_none, adds_then, adds_as}
-use borrow.Author.Rules.{rules}
 use Rattle.listing.proofs.finding_lines.Goals as goal
 
 pub returns-in-Found : goal.returns-in-Found

@@ -1,7 +1,6 @@
 -- Line after line, from no text on.
 use mathlib.Core.List.{[]}
 use Rattle.listing.proofs.Texts.{adds_then}
-use borrow.Author.Rules.{rules}
 use Rattle.listing.proofs.good_report.Goals as goal
 
 pub returns : goal.returns

@@ -2,7 +2,6 @@
 use mathlib.Core.Path.{sym, ap, ◌∙◌}
 use Rattle.listing.specs.Inside.{judged_lines}
 use Rattle.listing.proofs.Texts.{adds_then, adds_as}
-use borrow.Author.Rules.{rules}
 use Rattle.listing.proofs.judged_lines.Goals as goal
 
 pub returns-in-Told : goal.returns-in-Told

@@ -7,7 +7,6 @@ use Rattle.book.proofs.Written.{GoodRead, reply_read}
 use Rattle.listing.specs.Text.{text_of}
 use Rattle.listing.specs.Report.{report_of}
 use Rattle.listing.proofs.Reports.{refused_text, report_good}
-use borrow.Author.Rules.{rules}
 use Rattle.listing.proofs.report.Goals as goal
 use Rattle.listing.proofs.report.Goals.{In-Good}
 

@@ -1,10 +1,8 @@
 -- After n trials the choice at hand has the number n, and what is found is what is found among the choices left (Trying.antt).
 -- The number of trials is below the limit and the number of choices, so that counting never leaves 32 bits.
-use Prim.Native.Nat.{◌-◌}
 use mathlib.Core.Path.{sym, ◌∙◌}
 use native.Mathlib.Omega.{arith}
-use Rattle.search.proofs.Trying.{Trying, trying_start, trying_next, trying_found, trying_none, trying_more}
-use borrow.Author.Rules.{rules}
+use Rattle.search.proofs.Trying.{trying_start, trying_next, trying_found, trying_none, trying_more}
 use Rattle.search.proofs.find.Goals as goal
 
 pub loop-n-init : goal.loop-n-init

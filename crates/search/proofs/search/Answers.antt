@@ -5,7 +5,6 @@ use native.Mathlib.Omega.{arith}
 use Rattle.book.proofs.Stages.{all_bytes}
 use Rattle.book.proofs.Written.{GoodRead, reply_read, reply_refused}
 use Rattle.search.specs.declared.Searched.TheVariants.{Told}
-use borrow.Author.Rules.{rules}
 use Rattle.search.proofs.search.Goals as goal
 use Rattle.search.proofs.search.Goals.{In-Good}
 

@@ -3,7 +3,6 @@
 use native.Mathlib.Omega.{arith}
 use Rattle.book.proofs.Stages.{all_bytes}
 use Rattle.book.proofs.Written.{GoodRead, reply_read, reply_refused}
-use borrow.Author.Rules.{rules}
 use Rattle.book.proofs.choice.choose.Goals as goal
 use Rattle.book.proofs.choice.choose.Goals.{In-Good}
 

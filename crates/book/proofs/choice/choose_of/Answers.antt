@@ -4,7 +4,6 @@ use native.Mathlib.Omega.{arith}
 use mathlib.Core.Path.{◌≡◌, refl, ◌∙◌}
 use Rattle.book.specs.Choice.{choices}
 use Rattle.book.proofs.Written.{total_is, chosen_is, no_such_choice, such_a_choice}
-use borrow.Author.Rules.{rules}
 use Rattle.book.proofs.choice.choose_of.Goals as goal
 
 pub returns-then-total-n : goal.returns-then-total-n

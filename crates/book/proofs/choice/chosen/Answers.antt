@@ -2,13 +2,13 @@
 -- What is read of the movable lightpaths and of the digits are bytes, which bounds every sum; and every row is one of the 152, so all is in range.
 use mathlib.Core.Path.{◌≡◌, ap, ◌∙◌}
 use native.Mathlib.Nat.{le_antisymm}
-use Rattle.book.specs.Moving.{rows_in, with_rows_of}
+use Rattle.book.specs.Moving.{with_rows_of}
 use Prim.Native.Nat.{◌+◌, ◌-◌, ◌*◌, ◌≤◌}
 use mir.Syntax.{w8}
 use mir.Val.{Fits}
 use lib.ListN.{length, get_or, drop, length-take}
 use native.Mathlib.Omega.{arith}
-use Rattle.book.proofs.Moved.{Moving, moving_start, moving_next, moving_end}
+use Rattle.book.proofs.Moved.{moving_start, moving_next, moving_end}
 use Rattle.book.proofs.Routes.{lent}
 use borrow.Author.Rules.{rules}
 use Rattle.book.proofs.choice.chosen.Goals as goal

@@ -2,7 +2,6 @@
 -- Either is at most 151, the last row.
 use mathlib.Core.Path.{◌∙◌}
 use borrow.Author.Tests.{ne_eqb}
-use borrow.Author.Rules.{rules}
 use Rattle.book.proofs.choice.row_of.Goals as goal
 
 pub returns-then-d-eq0 : goal.returns-then-d-eq0

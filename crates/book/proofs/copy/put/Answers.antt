@@ -1,13 +1,12 @@
 -- After i turns the first i bytes of the source stand at their places, and all else is as it was.
 -- After the last turn that is the whole source, laid over the buffer.
 use native.Mathlib.Omega.{arith}
-use borrow.Author.Rules.{rules}
 use native.Mathlib.Nat.{le_antisymm}
 use native.Mathlib.Numerals.{add-one}
-use mathlib.Core.Path.{◌≡◌, refl, sym, ap, ◌∙◌}
+use mathlib.Core.Path.{refl, sym, ap, ◌∙◌}
 use mathlib.Core.List.{List}
-use Prim.Native.Nat.{ℕ, ◌+◌, ◌-◌, ◌≤◌, zero-le}
-use lib.ListN.{length, set, get_or, length-set}
+use Prim.Native.Nat.{ℕ, ◌+◌, zero-le}
+use lib.ListN.{set, get_or, length-set}
 use lib.Seq.{paste, paste-zero, paste-suc}
 use Rattle.book.proofs.copy.put.Goals as goal
 

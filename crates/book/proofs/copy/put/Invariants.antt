@@ -1,14 +1,9 @@
 -- After i turns the first i bytes of the source stand at their places, and all else is as it was.
 -- After the last turn that is the whole source, laid over the buffer.
-use native.Mathlib.Omega.{arith}
-use borrow.Author.Rules.{rules}
-use native.Mathlib.Nat.{le_antisymm}
-use native.Mathlib.Numerals.{add-one}
-use mathlib.Core.Path.{◌≡◌, refl, sym, ap, ◌∙◌}
-use mathlib.Core.List.{List}
-use Prim.Native.Nat.{ℕ, ◌+◌, ◌-◌, ◌≤◌, zero-le}
-use lib.ListN.{length, set, get_or, length-set}
-use lib.Seq.{paste, paste-zero, paste-suc}
+use mathlib.Core.Path.{◌≡◌}
+use Prim.Native.Nat.{◌-◌, ◌≤◌}
+use lib.ListN.{length}
+use lib.Seq.{paste}
 use Rattle.book.proofs.copy.put.Given as goal
 
 abbrev pub invariant-loop-i : goal.invariant-loop-i

@@ -1,12 +1,11 @@
 -- The loop over the AL records: the arrays hold those read, behind the rows of the lightpaths, and what is left to read gives what the whole gives.
 -- The tally stands for those read, so each record is tested against them.
 use native.Mathlib.Omega.{arith}
-use borrow.Author.Rules.{rules}
 use Prim.Native.Nat.{◌+◌, ◌-◌, ◌≤◌}
-use mathlib.Core.Path.{◌≡◌, refl}
+use mathlib.Core.Path.{refl}
 use lib.ListN.{length, get_or, drop, length-take}
 use Rattle.book.proofs.Routes.{part, lent}
-use Rattle.book.proofs.Lightpaths.{AlternativesTurned, alternatives_start, alternatives_next, alternatives_stop, alternatives_done, al_inside, al_short, al_whole}
+use Rattle.book.proofs.Lightpaths.{alternatives_start, alternatives_next, alternatives_stop, alternatives_done, al_inside, al_short, al_whole}
 use Rattle.book.proofs.fill.with_alternatives.Goals as goal
 use Rattle.book.proofs.fill.with_alternatives.Goals.{Else-flaw-ne0}
 

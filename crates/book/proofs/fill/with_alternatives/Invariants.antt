@@ -1,12 +1,8 @@
 -- The loop over the AL records: the arrays hold those read, behind the rows of the lightpaths, and what is left to read gives what the whole gives.
 -- The tally stands for those read, so each record is tested against them.
-use native.Mathlib.Omega.{arith}
-use borrow.Author.Rules.{rules}
-use Prim.Native.Nat.{◌+◌, ◌-◌, ◌≤◌}
-use mathlib.Core.Path.{◌≡◌, refl}
-use lib.ListN.{length, get_or, drop, length-take}
-use Rattle.book.proofs.Routes.{part, lent}
-use Rattle.book.proofs.Lightpaths.{AlternativesTurned, alternatives_start, alternatives_next, alternatives_stop, alternatives_done, al_inside, al_short, al_whole}
+use Prim.Native.Nat.{◌-◌}
+use mathlib.Core.Path.{◌≡◌}
+use Rattle.book.proofs.Lightpaths.{AlternativesTurned}
 use Rattle.book.proofs.fill.with_alternatives.Given as goal
 
 abbrev pub invariant-loop-k : goal.invariant-loop-k

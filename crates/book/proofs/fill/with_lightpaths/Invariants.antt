@@ -1,13 +1,7 @@
 -- The loop over the LP records: the arrays hold those read, and what is left to read gives what the whole gives.
 -- That holds for every list of nodes and of spans of which the book handed in is the image.
-use native.Mathlib.Omega.{arith}
-use borrow.Author.Rules.{rules}
-use Prim.Native.Nat.{◌+◌, ◌-◌, ◌≤◌}
-use mathlib.Core.List.{reverse}
-use lib.ListN.{length, get_or, drop, length-map, length-reverse, length-take}
-use Rattle.book.proofs.Routes.{part, lent}
-use Rattle.book.proofs.Rows.{route_long}
-use Rattle.book.proofs.Lightpaths.{LightpathsTurned, lightpaths_start, lightpaths_next, lightpaths_stop, lightpaths_done, lp_inside, lp_short, lp_whole, route_of}
+use Prim.Native.Nat.{◌-◌}
+use Rattle.book.proofs.Lightpaths.{LightpathsTurned}
 use Rattle.book.proofs.fill.with_lightpaths.Given as goal
 
 abbrev pub invariant-loop-k : goal.invariant-loop-k

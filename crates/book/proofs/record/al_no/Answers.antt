@@ -1,7 +1,6 @@
 -- An AL record is its mark, two fixed fields, the test of its lightpath and a route, so it is one of the cases of proofs/Routes.antt.
 -- The lightpath is below the count, so its ends are there to be looked up.
 use native.Mathlib.Omega.{arith}
-use borrow.Author.Rules.{rules}
 use mathlib.Core.Path.{sym, ◌∙◌}
 use lib.ListN.{get_or}
 use Rattle.book.proofs.Tallies.{follows_low}

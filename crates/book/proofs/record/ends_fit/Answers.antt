@@ -1,5 +1,4 @@
 -- Each test that fails makes the conjunction false, and past the others it is whether the two differ.
-use borrow.Author.Rules.{rules}
 use borrow.Author.Tests.{lt-ltb, le-ltb}
 use mathlib.Core.Path.{sym, ◌∙◌}
 use Rattle.book.proofs.record.ends_fit.Goals as goal

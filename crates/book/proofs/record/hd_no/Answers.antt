@@ -1,5 +1,4 @@
 -- The HD record is its mark, four fixed fields and the test of its counts, so it is one of the cases of `Tested`.
-use borrow.Author.Rules.{rules}
 use native.Mathlib.Omega.{arith}
 use mathlib.Core.Path.{sym, ◌∙◌}
 use Rattle.book.specs.Book.{counts_fit}

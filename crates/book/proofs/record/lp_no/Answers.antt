@@ -1,7 +1,6 @@
 -- An LP record is its mark, three fixed fields, the test of its ends and a route, so it is one of the cases of proofs/Routes.antt.
 -- The route starts five bytes on.
 use native.Mathlib.Omega.{arith}
-use borrow.Author.Rules.{rules}
 use mathlib.Core.Path.{sym, ◌∙◌}
 use lib.ListN.{get_or}
 use Rattle.book.proofs.Stations.{ends_low}

@@ -1,5 +1,4 @@
 -- An ND record is its mark, one fixed field and the test of that flag, so it is one of the cases of `Tested`.
-use borrow.Author.Rules.{rules}
 use borrow.Author.Tests.{le-leb, lt-leb}
 use native.Mathlib.Omega.{arith}
 use lib.Dec.{eqb, leb}

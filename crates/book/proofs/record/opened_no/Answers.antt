@@ -1,6 +1,5 @@
 -- The mark and the fixed fields are tested in the reader's order, so each answer is one of the five cases of proofs/Numbers.antt.
 -- What leads to a return is arithmetic on the tests before it.
-use borrow.Author.Rules.{rules}
 use native.Mathlib.Omega.{arith}
 use Rattle.book.proofs.Numbers.{opened_short, opened_unlike, opened_unlike2, opened_torn, opened_whole}
 use Rattle.book.proofs.record.opened_no.Goals as goal

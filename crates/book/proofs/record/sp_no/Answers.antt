@@ -1,5 +1,4 @@
 -- An SP record is its mark, three fixed fields and the test of its ends, so it is one of the cases of `Tested`.
-use borrow.Author.Rules.{rules}
 use native.Mathlib.Omega.{arith}
 use mathlib.Core.Path.{sym, ◌∙◌}
 use Rattle.book.specs.Book.{span_ends}

@@ -1,5 +1,4 @@
 -- Each word takes the span exactly if the span is in it.
-use borrow.Author.Rules.{rules}
 use Rattle.book.proofs.row.with_span.Goals as goal
 
 pub returns : goal.returns

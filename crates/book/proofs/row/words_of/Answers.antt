@@ -1,9 +1,9 @@
 -- What is left of the route, put into the words so far, gives the words of the whole.
 use borrow.Author.Rules.{rules}
-use mathlib.Core.Path.{◌≡◌, refl, ◌∙◌}
-use Prim.Native.Nat.{◌-◌, ◌≤◌, zero-le}
-use lib.ListN.{length, drop, drop_of_length-le}
-use Rattle.book.specs.Bits.{word_into, span_word}
+use mathlib.Core.Path.{refl, ◌∙◌}
+use Prim.Native.Nat.{zero-le}
+use lib.ListN.{drop_of_length-le}
+use Rattle.book.specs.Bits.{word_into}
 use Rattle.book.proofs.Walking.{route_cons}
 use Rattle.book.proofs.row.words_of.Goals as goal
 

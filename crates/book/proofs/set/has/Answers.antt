@@ -1,5 +1,4 @@
 -- Membership by shift and mask is membership: `machine_has`.
-use borrow.Author.Rules.{rules}
 use Rattle.book.proofs.Bits.{machine_has}
 use Rattle.book.proofs.set.has.Goals as goal
 

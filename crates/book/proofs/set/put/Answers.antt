@@ -1,5 +1,4 @@
 -- Growth by or of a shifted one puts that one number in: `machine_put`.
-use borrow.Author.Rules.{rules}
 use Rattle.book.proofs.Bits.{machine_put}
 use Rattle.book.proofs.set.put.Goals as goal
 

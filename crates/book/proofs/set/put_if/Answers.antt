@@ -1,5 +1,4 @@
 -- Both branches are the two cases of the definition.
-use borrow.Author.Rules.{rules}
 use Rattle.book.proofs.set.put_if.Goals as goal
 
 pub returns-then-t : goal.returns-then-t

@@ -1,5 +1,4 @@
 -- A refusal of an AL record is one of the book; else EN is due, with the whole book read.
-use borrow.Author.Rules.{rules}
 use mathlib.Core.List.{[], map}
 use lib.ListN.{drop}
 use Rattle.book.specs.Reader.{each}

@@ -1,6 +1,5 @@
 -- EN is read, and then the book has to be at its end: each answer is one of the three cases of proofs/Replies.antt.
 use native.Mathlib.Omega.{arith}
-use borrow.Author.Rules.{rules}
 use mathlib.Core.List.{[]}
 use Rattle.book.proofs.Routes.{part}
 use Rattle.book.proofs.Replies.{end_stop, end_fits, end_more, end_good}

@@ -1,5 +1,4 @@
 -- A refusal of an LP record is one of the book; else the AL records are due, with what the lightpaths say in the book.
-use borrow.Author.Rules.{rules}
 use mathlib.Core.List.{[]}
 use lib.ListN.{drop}
 use Rattle.book.specs.Reader.{each}

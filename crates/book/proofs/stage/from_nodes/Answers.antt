@@ -1,6 +1,5 @@
 -- A refusal of an ND record is one of the book; once all are read the set of stations is empty exactly if no node is a station, which is refusal 10 there.
 -- Else the SP records are due.
-use borrow.Author.Rules.{rules}
 use mathlib.Core.Path.{◌≡◌, sym, ap, ◌∙◌}
 use mathlib.Core.List.{List, []}
 use mathlib.Core.Bool.{Bool, true, false}

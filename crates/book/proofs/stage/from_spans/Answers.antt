@@ -1,5 +1,4 @@
 -- A refusal of an SP record is one of the book; else the LP records are due, with what the spans say in the book.
-use borrow.Author.Rules.{rules}
 use mathlib.Core.List.{[]}
 use lib.ListN.{length, drop}
 use Rattle.book.specs.Reader.{each}

@@ -1,11 +1,8 @@
 -- What is left of the route has its first number that is not below n, or none, where the whole has it, as long as each one passed was below.
 use borrow.Author.Rules.{rules}
-use mathlib.Core.Path.{◌≡◌, refl, sym, ◌∙◌}
-use Prim.Native.Nat.{◌-◌, ◌≤◌, zero-le}
+use mathlib.Core.Path.{refl, sym, ◌∙◌}
+use Prim.Native.Nat.{zero-le}
 use native.Mathlib.Omega.{arith}
-use lib.ListN.{length, drop}
-use Rattle.book.specs.Book.{below}
-use Rattle.book.specs.Format.{from_high}
 use Rattle.book.proofs.Walking.{below_more, below_stop, below_none, high_more, high_stop}
 use Rattle.book.proofs.walk.first_high.Goals as goal
 

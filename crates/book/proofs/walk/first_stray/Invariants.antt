@@ -1,13 +1,10 @@
 -- What is left of the route fails, from the present node on, where the whole fails from its start.
 -- Each turn is one step of the walk, and a step that fails ends it.
-use borrow.Author.Rules.{rules}
-use borrow.Author.Tests.{eq-eqb, ne_eqb}
-use mathlib.Core.Path.{◌≡◌, sym, ◌∙◌}
-use Prim.Native.Nat.{◌-◌, ◌≤◌, ◌<◌, zero-le}
+use mathlib.Core.Path.{◌≡◌}
+use Prim.Native.Nat.{◌-◌, ◌≤◌, ◌<◌}
 use lib.ListN.{length, drop}
 use Rattle.book.specs.Bits.{put}
 use Rattle.book.specs.Inside.{stray_in}
-use Rattle.book.proofs.Walking.{route_cons, walk_on, walk_off, hop_low, walk_end, below_at}
 use Rattle.book.proofs.walk.first_stray.Given as goal
 
 abbrev pub invariant-loop-j : goal.invariant-loop-j

@@ -1,5 +1,4 @@
 -- A span leads on exactly if one end is the present node and the other is not met: each branch is one way the two tests come out.
-use borrow.Author.Rules.{rules}
 use borrow.Author.Tests.{eq-eqb, ne_eqb}
 use mathlib.Core.Path.{sym, ◌∙◌}
 use Rattle.book.proofs.walk.step_over.Goals as goal

@@ -1,11 +1,7 @@
 -- After k turns the total and the bytes of the records left are the bytes of all records, in whichever book is held.
 -- A book that is held has at most 96 lightpaths and routes of at most 16 spans, so no sum is too large.
-use native.Mathlib.Omega.{arith}
-use borrow.Author.Rules.{rules}
-use mathlib.Core.Path.{◌∙◌}
-use Prim.Native.Nat.{◌-◌, ◌≤◌}
-use lib.ListN.{get_or}
-use Rattle.book.proofs.Writers.{held_few, held_short, Passed, passed_start, passed_low, passed_next, passed_done}
+use Prim.Native.Nat.{◌-◌}
+use Rattle.book.proofs.Writers.{Passed}
 use Rattle.book.proofs.write.lightpaths_len.Given as goal
 
 abbrev pub invariant-loop-k : goal.invariant-loop-k

@@ -1,12 +1,11 @@
 -- After k turns the records left, laid behind those written, give all the records laid into the buffer as it was.
 -- Each turn lays one record more, of the ends and the route that stand at k in the arrays.
 use native.Mathlib.Omega.{arith}
-use borrow.Author.Rules.{rules}
 use mathlib.Core.Path.{ap, ◌∙◌}
-use Prim.Native.Nat.{◌-◌, ◌≤◌, ◌+◌, ◌*◌}
+use Prim.Native.Nat.{◌≤◌, ◌+◌, ◌*◌}
 use lib.ListN.{length, get_or}
 use Rattle.book.proofs.Routes.{lent}
-use Rattle.book.proofs.Writers.{held_few, held_short, held_row, held_reach, Putting, putting_start, putting_room, putting_next, putting_done}
+use Rattle.book.proofs.Writers.{held_few, held_short, held_row, held_reach, putting_start, putting_room, putting_next, putting_done}
 use Rattle.book.proofs.write.put_lightpaths.Goals as goal
 use Rattle.book.proofs.write.put_lightpaths.Goals.{In-loop-k}
 

@@ -1,6 +1,5 @@
 -- The head of five bytes is laid at its place, and the route behind it: two runs that are one.
 -- Together they are the record, since the head holds the mark, the ends and the length.
-use borrow.Author.Rules.{rules}
 use native.Mathlib.Omega.{arith}
 use mathlib.Core.Path.{ap, ◌∙◌}
 use mathlib.Core.List.{List, [], ◌∷◌}

@@ -4,7 +4,6 @@ use native.Mathlib.Omega.{arith}
 use mathlib.Core.Path.{refl}
 use Rattle.book.proofs.Stages.{all_bytes}
 use Rattle.book.proofs.Written.{GoodRead, reply_read, reply_refused}
-use borrow.Author.Rules.{rules}
 use Rattle.book.proofs.write.write.Goals as goal
 use Rattle.book.proofs.write.write.Goals.{In-Good}
 

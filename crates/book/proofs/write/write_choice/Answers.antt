@@ -7,7 +7,6 @@ use Rattle.book.specs.Book.{RouteBook}
 use Rattle.book.specs.Choice.{choices, chosen}
 use Rattle.book.specs.Inside.{ReadAs, Rewriting}
 use Rattle.book.proofs.Written.{total_is, rewriting, no_such_choice, such_a_choice}
-use borrow.Author.Rules.{rules}
 use Rattle.book.proofs.write.write_choice.Goals as goal
 use Rattle.book.proofs.write.write_choice.Goals.{After-chosen-new}
 

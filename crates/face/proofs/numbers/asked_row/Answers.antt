@@ -5,7 +5,6 @@ use mathlib.Core.Bool.{Bool, true, false, cond}
 use mathlib.Core.List.{[], ◌∷◌}
 use mir.Val.{bool_byte}
 use Rattle.face.specs.Numbers.{asked_row}
-use borrow.Author.Rules.{rules}
 use Rattle.face.proofs.numbers.asked_row.Goals as goal
 
 as_number : (t : Bool) → bool_byte t ≡ cond t 1 0

@@ -1,7 +1,6 @@
 -- The numbers are those of the answer, whichever it is.
 use mathlib.Core.Path.{sym, ap, ◌∙◌}
 use Rattle.face.specs.Numbers.{closed_row}
-use borrow.Author.Rules.{rules}
 use Rattle.face.proofs.numbers.closed_row.Goals as goal
 
 pub returns-in-Told : goal.returns-in-Told

@@ -1,7 +1,6 @@
 -- The numbers are those of the verdict, with the number of merges behind them; or those of the refusal.
 use mathlib.Core.Path.{sym, ap, ◌∙◌}
 use Rattle.face.specs.Numbers.{contracted_row}
-use borrow.Author.Rules.{rules}
 use Rattle.face.proofs.numbers.contracted_row.Goals as goal
 
 pub returns-in-Told : goal.returns-in-Told

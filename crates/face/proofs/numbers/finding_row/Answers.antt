@@ -3,7 +3,6 @@ use mathlib.Core.Path.{sym, ap}
 use Rattle.search.specs.declared.Finding.{Finding}
 use Rattle.search.specs.declared.Searched.TheVariants.{Told}
 use Rattle.face.specs.Numbers.{searched_row}
-use borrow.Author.Rules.{rules}
 use Rattle.face.proofs.numbers.finding_row.Goals as goal
 
 pub returns-in-Found : goal.returns-in-Found

@@ -2,7 +2,6 @@
 use mathlib.Core.Path.{sym, ap, ◌∙◌}
 use Rattle.book.specs.declared.Answer.{Answer}
 use Rattle.face.specs.Numbers.{reply_row}
-use borrow.Author.Rules.{rules}
 use Rattle.face.proofs.numbers.read_row.Goals as goal
 
 pub returns-in-Good : goal.returns-in-Good

@@ -3,7 +3,6 @@ use mathlib.Core.Path.{sym, ap}
 use Rattle.judgement.specs.declared.Site.{Site}
 use Rattle.judgement.specs.declared.Closed.TheVariants.{Told}
 use Rattle.face.specs.Numbers.{closed_row}
-use borrow.Author.Rules.{rules}
 use Rattle.face.proofs.numbers.site_row.Goals as goal
 
 pub returns-in-Down : goal.returns-in-Down

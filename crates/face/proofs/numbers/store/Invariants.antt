@@ -1,15 +1,8 @@
 -- After i turns the first i numbers stand at the front, and all else is as it was. In the facts, t2 is the array as it was handed over.
-use native.Mathlib.Omega.{arith}
-use native.Mathlib.Nat.{le_antisymm, zero-add}
-use native.Mathlib.Numerals.{add-one}
-use mathlib.Core.Path.{◌≡◌, refl, sym, ap, ◌∙◌}
-use mathlib.Core.Bool.{Bool, cond}
-use mathlib.Core.List.{List, ◌++◌}
-use Prim.Native.Nat.{ℕ, ◌-◌, ◌≤◌, zero-le}
-use lib.ListN.{length, set, get_or, drop, length-set}
-use lib.Seq.{paste, paste-zero, paste-suc, take_all}
-use borrow.Author.Tests.{le-leb, lt-leb}
-use borrow.Author.Rules.{rules}
+use mathlib.Core.Path.{◌≡◌}
+use Prim.Native.Nat.{◌-◌, ◌≤◌}
+use lib.ListN.{length}
+use lib.Seq.{paste}
 use Rattle.face.proofs.numbers.store.Given as goal
 
 abbrev pub invariant-loop-i : goal.invariant-loop-i

@@ -2,7 +2,6 @@
 use mathlib.Core.Path.{sym, ap}
 use Rattle.judgement.specs.declared.Verdict.{Verdict}
 use Rattle.face.specs.Numbers.{verdict_row}
-use borrow.Author.Rules.{rules}
 use Rattle.face.proofs.numbers.verdict_row.Goals as goal
 
 pub returns-in-Over : goal.returns-in-Over

@@ -1,7 +1,6 @@
 -- The numbers are those of the answer, whichever it is.
 use mathlib.Core.Path.{sym, ap, ◌∙◌}
 use Rattle.face.specs.Numbers.{written_row}
-use borrow.Author.Rules.{rules}
 use Rattle.face.proofs.numbers.written_row.Goals as goal
 
 pub returns-in-Length : goal.returns-in-Length

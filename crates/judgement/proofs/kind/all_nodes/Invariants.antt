@@ -1,11 +1,8 @@
 -- What is left has all its numbers below 64 exactly if the whole has, as long as each one passed was.
-use borrow.Author.Rules.{rules}
-use mathlib.Core.Path.{◌≡◌, refl, sym, ◌∙◌}
-use Prim.Native.Nat.{◌-◌, ◌≤◌, zero-le}
-use native.Mathlib.Omega.{arith}
+use mathlib.Core.Path.{◌≡◌}
+use Prim.Native.Nat.{◌-◌, ◌≤◌}
 use lib.ListN.{length, drop}
 use Rattle.book.specs.Book.{below}
-use Rattle.book.proofs.Walking.{below_more, below_stop, below_none}
 use Rattle.judgement.proofs.kind.all_nodes.Given as goal
 
 abbrev pub invariant-loop-k : goal.invariant-loop-k

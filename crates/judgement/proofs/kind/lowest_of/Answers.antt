@@ -1,5 +1,4 @@
 -- The lowest of the struct's own set of stations.
-use borrow.Author.Rules.{rules}
 use Rattle.judgement.proofs.kind.lowest_of.Goals as goal
 
 pub returns : goal.returns

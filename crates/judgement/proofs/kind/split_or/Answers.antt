@@ -1,7 +1,6 @@
 -- The side with all lightpaths up is the set of stations, and then no more is to be split, or it is not, and then it is the answer.
 use mathlib.Core.Path.{◌∙◌}
 use Rattle.judgement.proofs.Found.{is_split, not_split}
-use borrow.Author.Rules.{rules}
 use Rattle.judgement.proofs.kind.split_or.Goals as goal
 
 pub returns-then-whole-b : goal.returns-then-whole-b

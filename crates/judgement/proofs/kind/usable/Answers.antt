@@ -6,8 +6,6 @@ use Rattle.book.specs.Book.{below}
 use Rattle.judgement.specs.Arrays.{usable}
 use Rattle.judgement.proofs.Usable.{too_many_lightpaths, too_many_spans, no_station, by_the_ends}
 use native.Mathlib.Omega.{arith}
-use borrow.Author.Tests.{not-true, not-false}
-use borrow.Author.Rules.{rules}
 use Rattle.judgement.proofs.kind.usable.Goals as goal
 use Rattle.judgement.proofs.kind.usable.Goals.{After-from-2-1}
 

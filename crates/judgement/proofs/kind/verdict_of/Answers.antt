@@ -2,12 +2,10 @@
 -- Both are one search, whose last answer is what follows.
 use mathlib.Core.Path.{◌≡◌, sym, ap, ◌∙◌}
 use mathlib.Core.Bool.{Bool, cond}
-use borrow.Author.Tests.{not-true, not-false}
 use Rattle.judgement.specs.declared.Verdict.TheVariants.{Split}
 use Rattle.judgement.specs.Arrays.{split_or_in, over_or_in, verdict_in}
 use Rattle.judgement.specs.Holding.{Usable}
 use Rattle.judgement.proofs.Found.{over_or, over_is}
-use borrow.Author.Rules.{rules}
 use Rattle.judgement.proofs.kind.verdict_of.Goals as goal
 use Rattle.judgement.proofs.kind.verdict_of.Goals.{Else-not-usable}
 

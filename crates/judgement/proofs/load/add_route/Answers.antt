@@ -2,10 +2,9 @@
 -- No load was more than 1,536 and the route has at most 16 places, so no sum is too large.
 use borrow.Author.Rules.{rules}
 use native.Mathlib.Omega.{arith}
-use Prim.Native.Nat.{◌-◌, ◌+◌, ◌≤◌}
+use Prim.Native.Nat.{◌+◌}
 use mathlib.Core.Path.{sym, subst}
-use mathlib.Core.Logic.{⊎_elim}
-use lib.ListN.{length, get_or, take, length-take}
+use lib.ListN.{get_or, take, length-take}
 use Rattle.judgement.specs.Holding.{Counted}
 use Rattle.book.proofs.Once.{count_most}
 use Rattle.judgement.proofs.Loads.{counted_start, counted_next, counted_past, counted_done}

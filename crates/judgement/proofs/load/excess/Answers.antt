@@ -1,9 +1,8 @@
 -- After k turns the total is the sum of the first k spans' loads above their limits, as the arrays have them.
 -- The arrays say of each span what the book says of it, and that sum is at most 1,536, so that none is too large.
-use borrow.Author.Rules.{rules}
 use native.Mathlib.Omega.{arith}
 use mathlib.Core.Path.{◌≡◌, refl, ap, ◌∙◌}
-use Prim.Native.Nat.{◌-◌, ◌+◌, ◌≤◌, ◌<◌, zero-le}
+use Prim.Native.Nat.{◌+◌, zero-le}
 use Rattle.judgement.specs.Judgement.{sum}
 use Rattle.judgement.proofs.Sums.{sum_next}
 use Rattle.judgement.proofs.Usable.{held_spans}

@@ -1,13 +1,9 @@
 -- After k turns the total is the sum of the first k spans' loads above their limits, as the arrays have them.
 -- The arrays say of each span what the book says of it, and that sum is at most 1,536, so that none is too large.
-use borrow.Author.Rules.{rules}
-use native.Mathlib.Omega.{arith}
-use mathlib.Core.Path.{◌≡◌, refl, ap, ◌∙◌}
-use Prim.Native.Nat.{◌-◌, ◌+◌, ◌≤◌, ◌<◌, zero-le}
+use mathlib.Core.Path.{◌≡◌}
+use Prim.Native.Nat.{◌-◌, ◌≤◌}
 use Rattle.judgement.specs.Judgement.{sum}
-use Rattle.judgement.proofs.Sums.{sum_next}
-use Rattle.judgement.proofs.Usable.{held_spans}
-use Rattle.judgement.proofs.Excess.{excess_in, excess_is, excess_low}
+use Rattle.judgement.proofs.Excess.{excess_in}
 use Rattle.judgement.proofs.load.excess.Given as goal
 
 abbrev pub invariant-loop-k : goal.invariant-loop-k

@@ -1,14 +1,9 @@
 -- After k turns the first of all spans over its limit, as the arrays have them, is the first of those from k on.
 -- The arrays say of each span what the book says of it, so it is the first of the book.
-use borrow.Author.Rules.{rules}
-use borrow.Author.Tests.{lt-ltb, le-ltb}
-use native.Mathlib.Omega.{arith}
-use mathlib.Core.Path.{sym, ◌∙◌}
-use Prim.Native.Nat.{◌-◌, ◌<◌}
+use Prim.Native.Nat.{◌-◌}
 use Rattle.judgement.specs.declared.load.Overload.TheVariants.{Nowhere}
-use Rattle.judgement.proofs.First.{Looking, looking_start, looking_next, looking_hit, looking_end}
-use Rattle.judgement.proofs.Usable.{usable_spans}
-use Rattle.judgement.proofs.Excess.{over_in, at_in, over_is}
+use Rattle.judgement.proofs.First.{Looking}
+use Rattle.judgement.proofs.Excess.{over_in, at_in}
 use Rattle.judgement.proofs.load.first_over.Given as goal
 
 abbrev pub invariant-loop-k : goal.invariant-loop-k

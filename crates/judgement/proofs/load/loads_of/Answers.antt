@@ -2,12 +2,12 @@
 -- No row is longer than 16 places, so no load is too large for its place.
 use borrow.Author.Rules.{rules}
 use native.Mathlib.Omega.{arith}
-use Prim.Native.Nat.{◌-◌, ◌*◌, ◌≤◌}
+use Prim.Native.Nat.{◌*◌, ◌≤◌}
 use mathlib.Core.Path.{◌≡◌}
 use lib.ListN.{length}
 use Rattle.book.proofs.Routes.{lent}
 use Rattle.judgement.proofs.Usable.{usable_lightpaths}
-use Rattle.judgement.proofs.Loads.{Tallied, tallied_start, tallied_room, tallied_next, tallied_done}
+use Rattle.judgement.proofs.Loads.{tallied_start, tallied_room, tallied_next, tallied_done}
 use Rattle.judgement.proofs.load.loads_of.Goals as goal
 use Rattle.judgement.proofs.load.loads_of.Goals.{In-loop-k}
 

@@ -1,13 +1,7 @@
 -- After k turns each load is the number of times that its span stands in the first k rows.
 -- No row is longer than 16 places, so no load is too large for its place.
-use borrow.Author.Rules.{rules}
-use native.Mathlib.Omega.{arith}
-use Prim.Native.Nat.{◌-◌, ◌*◌, ◌≤◌}
-use mathlib.Core.Path.{◌≡◌}
-use lib.ListN.{length}
-use Rattle.book.proofs.Routes.{lent}
-use Rattle.judgement.proofs.Usable.{usable_lightpaths}
-use Rattle.judgement.proofs.Loads.{Tallied, tallied_start, tallied_room, tallied_next, tallied_done}
+use Prim.Native.Nat.{◌-◌}
+use Rattle.judgement.proofs.Loads.{Tallied}
 use Rattle.judgement.proofs.load.loads_of.Given as goal
 
 abbrev pub invariant-loop-k : goal.invariant-loop-k

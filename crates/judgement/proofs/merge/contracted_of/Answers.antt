@@ -1,5 +1,4 @@
 -- A span over its limit is the answer, with no merge; else the pieces are made and what is left is judged. Both are one search, whose last answer is that.
-use borrow.Author.Rules.{rules}
 use mathlib.Core.Path.{sym, ap, ap₂, ◌∙◌}
 use Rattle.judgement.specs.Pieces.{split_over}
 use Rattle.judgement.specs.Contraction.{pieces, merges_in}

@@ -1,10 +1,7 @@
 -- After k turns the first k places hold the labels of those ends. Each store is one place more.
-use borrow.Author.Rules.{rules}
-use mathlib.Core.Path.{refl}
-use Prim.Native.Nat.{◌-◌, ◌≤◌, zero-le}
+use Prim.Native.Nat.{◌-◌, ◌≤◌}
 use lib.ListN.{get_or}
 use Rattle.judgement.specs.Merge.{Table}
-use Rattle.judgement.proofs.LabelArrays.{filled_start, filled_next, filled_done}
 use Rattle.judgement.proofs.merge.end_labels.Given as goal
 
 abbrev pub invariant-loop-k : goal.invariant-loop-k

@@ -1,5 +1,4 @@
 -- A verdict with a side has it given in stations; the others are handed on.
-use borrow.Author.Rules.{rules}
 use mathlib.Core.Path.{sym, ap, ◌∙◌}
 use Rattle.judgement.specs.Merge.{given_in}
 use Rattle.judgement.specs.declared.Verdict.TheVariants.{Split, Cut}

@@ -1,13 +1,10 @@
 -- After i turns the set holds the stations below i whose labels are in the side. One node more is `labels_next`.
-use borrow.Author.Rules.{rules}
-use mathlib.Core.Path.{◌≡◌, refl, sym, ap₂, ◌∙◌}
-use mathlib.Core.Bool.{Bool, ◌&&◌}
-use Prim.Native.Nat.{ℕ, ◌-◌, ◌≤◌, zero-le}
+use mathlib.Core.Path.{◌≡◌}
+use mathlib.Core.Bool.{◌&&◌}
+use Prim.Native.Nat.{◌-◌, ◌≤◌}
 use lib.ListN.{get_or}
-use native.Mathlib.Nat.{le_antisymm}
-use Rattle.book.specs.Bits.{has, put_if}
+use Rattle.book.specs.Bits.{has}
 use Rattle.judgement.specs.Pieces.{labels}
-use Rattle.judgement.proofs.LabelArrays.{labels_next}
 use Rattle.judgement.proofs.merge.in_stations.Given as goal
 
 abbrev pub invariant-loop-i : goal.invariant-loop-i

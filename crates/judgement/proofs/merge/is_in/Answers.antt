@@ -1,5 +1,4 @@
 -- Where the node is no station the side is not asked.
-use borrow.Author.Rules.{rules}
 use mathlib.Core.Path.{sym, ◌∙◌}
 use Rattle.judgement.proofs.merge.is_in.Goals as goal
 

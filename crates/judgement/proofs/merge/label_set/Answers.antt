@@ -1,11 +1,11 @@
 -- After i turns the set holds the labels of the stations below i. One node more is `labels_next`.
 use borrow.Author.Rules.{rules}
-use mathlib.Core.Path.{◌≡◌, refl, sym, ap₂, ◌∙◌}
+use mathlib.Core.Path.{refl, sym, ap₂, ◌∙◌}
 use mathlib.Core.Bool.{Bool}
-use Prim.Native.Nat.{ℕ, ◌-◌, ◌≤◌, zero-le}
+use Prim.Native.Nat.{ℕ, zero-le}
 use lib.ListN.{get_or}
 use native.Mathlib.Nat.{le_antisymm}
-use Rattle.book.specs.Bits.{has, put_if}
+use Rattle.book.specs.Bits.{put_if}
 use Rattle.judgement.specs.Pieces.{labels}
 use Rattle.judgement.proofs.LabelArrays.{labels_next}
 use Rattle.judgement.proofs.merge.label_set.Goals as goal

@@ -1,5 +1,4 @@
 -- The test of the branch is the definition's own.
-use borrow.Author.Rules.{rules}
 use mathlib.Core.Path.{sym, ◌∙◌}
 use Rattle.judgement.proofs.merge.one_label.Goals as goal
 

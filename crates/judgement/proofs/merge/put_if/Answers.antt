@@ -1,5 +1,4 @@
 -- The test of the branch is the definition's own.
-use borrow.Author.Rules.{rules}
 use Rattle.judgement.proofs.merge.put_if.Goals as goal
 
 pub returns-then-test : goal.returns-then-test

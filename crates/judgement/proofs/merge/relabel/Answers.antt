@@ -1,9 +1,6 @@
 -- After i turns the first i places hold the new labels. Each store is one place more.
 use borrow.Author.Rules.{rules}
-use Prim.Native.Nat.{◌-◌, ◌≤◌, zero-le}
-use lib.ListN.{get_or}
-use lib.Count.{count_trailing_zeros}
-use Rattle.judgement.specs.Merge.{Table, relabelled}
+use Prim.Native.Nat.{zero-le}
 use Rattle.judgement.proofs.LabelArrays.{filled_start, filled_next, filled_done}
 use Rattle.judgement.proofs.merge.relabel.Goals as goal
 

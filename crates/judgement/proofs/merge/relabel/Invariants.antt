@@ -1,10 +1,8 @@
 -- After i turns the first i places hold the new labels. Each store is one place more.
-use borrow.Author.Rules.{rules}
-use Prim.Native.Nat.{◌-◌, ◌≤◌, zero-le}
+use Prim.Native.Nat.{◌-◌, ◌≤◌}
 use lib.ListN.{get_or}
 use lib.Count.{count_trailing_zeros}
 use Rattle.judgement.specs.Merge.{Table, relabelled}
-use Rattle.judgement.proofs.LabelArrays.{filled_start, filled_next, filled_done}
 use Rattle.judgement.proofs.merge.relabel.Given as goal
 
 abbrev pub invariant-loop-i : goal.invariant-loop-i

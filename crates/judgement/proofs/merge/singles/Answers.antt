@@ -1,8 +1,7 @@
 -- After i turns the first i places hold their own numbers. Each store is one place more.
 use borrow.Author.Rules.{rules}
 use mathlib.Core.Path.{refl}
-use Prim.Native.Nat.{◌-◌, ◌≤◌, zero-le}
-use Rattle.judgement.specs.Merge.{Table}
+use Prim.Native.Nat.{zero-le}
 use Rattle.judgement.proofs.LabelArrays.{filled_start, filled_next, filled_done}
 use Rattle.judgement.proofs.merge.singles.Goals as goal
 

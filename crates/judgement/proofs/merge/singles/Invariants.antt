@@ -1,9 +1,6 @@
 -- After i turns the first i places hold their own numbers. Each store is one place more.
-use borrow.Author.Rules.{rules}
-use mathlib.Core.Path.{refl}
-use Prim.Native.Nat.{◌-◌, ◌≤◌, zero-le}
+use Prim.Native.Nat.{◌-◌, ◌≤◌}
 use Rattle.judgement.specs.Merge.{Table}
-use Rattle.judgement.proofs.LabelArrays.{filled_start, filled_next, filled_done}
 use Rattle.judgement.proofs.merge.singles.Given as goal
 
 abbrev pub invariant-loop-i : goal.invariant-loop-i

@@ -1,5 +1,4 @@
 -- The words have the nodes met, so the first node that is down in them is the book's: `site-in`.
-use borrow.Author.Rules.{rules}
 use mathlib.Core.Path.{◌∙◌}
 use Rattle.judgement.proofs.MetWords.{site-in}
 use Rattle.judgement.proofs.node.closed_of.Goals as goal

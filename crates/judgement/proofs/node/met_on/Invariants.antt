@@ -1,13 +1,9 @@
 -- After j spans the word has the nodes behind the present one, and what is left of the route meets the rest. Each span leads from the present node to its
 -- other end, which is below 64 as both ends are.
-use borrow.Author.Rules.{rules}
-use Prim.Native.Nat.{◌-◌, ◌<◌, ◌≤◌, zero-le}
-use mathlib.Core.Path.{◌≡◌, refl, sym, ◌∙◌}
-use native.Mathlib.Omega.{arith}
-use lib.ListN.{length, get_or, drop}
-use Rattle.book.proofs.Walking.{below_at}
+use Prim.Native.Nat.{◌-◌, ◌<◌, ◌≤◌}
+use mathlib.Core.Path.{◌≡◌}
+use lib.ListN.{length, drop}
 use Rattle.judgement.specs.Closing.{met_in}
-use Rattle.judgement.proofs.MetWords.{walk_next, walk_done, end_low}
 use Rattle.judgement.proofs.node.met_on.Given as goal
 
 abbrev pub invariant-loop-j : goal.invariant-loop-j

@@ -1,7 +1,5 @@
 -- Where the node is no station nothing is taken out of the set; a station is taken out by the xor with its own bit.
-use borrow.Author.Rules.{rules}
 use mathlib.Core.Path.{sym, ◌∙◌}
-use borrow.Author.Tests.{not-true, not-false}
 use Rattle.judgement.proofs.node.stations_left.Goals as goal
 
 pub returns-then-not-has : goal.returns-then-not-has

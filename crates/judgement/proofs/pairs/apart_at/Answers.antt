@@ -1,5 +1,4 @@
 -- The branches are the cases of the test: the lightpath is up, its ends are joined, or neither. The test of each branch decides the definition's own.
-use borrow.Author.Rules.{rules}
 use Rattle.judgement.proofs.pairs.apart_at.Goals as goal
 
 pub returns-then-up : goal.returns-then-up

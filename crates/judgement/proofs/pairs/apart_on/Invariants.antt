@@ -1,13 +1,8 @@
 -- After k turns the total counts the first k lightpaths. It counts each at most once, so that no sum is too large.
-use borrow.Author.Rules.{rules}
-use native.Mathlib.Omega.{arith}
-use mathlib.Core.Path.{◌≡◌, refl}
-use Prim.Native.Nat.{◌-◌, ◌+◌, ◌≤◌, zero-le}
-use native.Mathlib.Nat.{le_antisymm}
+use mathlib.Core.Path.{◌≡◌}
+use Prim.Native.Nat.{◌-◌, ◌≤◌}
 use Rattle.judgement.specs.Judgement.{sum, one}
 use Rattle.judgement.specs.Inside.{up_of, parted_by}
-use Rattle.judgement.proofs.Sums.{sum_next}
-use Rattle.judgement.proofs.Apart.{ones_few}
 use Rattle.judgement.proofs.pairs.apart_on.Given as goal
 
 abbrev pub invariant-loop-k : goal.invariant-loop-k

@@ -1,6 +1,5 @@
 -- Where the known side holds the first node it is that node's own, and where it holds only the second the two are not joined: `Known`.
 -- Where it holds neither, the side of the first is grown.
-use borrow.Author.Rules.{rules}
 use mathlib.Core.Path.{sym, ◌∙◌}
 use Rattle.judgement.proofs.Known.{known_in, known_out}
 use Rattle.judgement.proofs.pairs.joined.Goals as goal

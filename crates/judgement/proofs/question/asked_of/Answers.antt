@@ -9,7 +9,6 @@ use Rattle.judgement.specs.Judgement.{without, stations}
 use Rattle.judgement.proofs.Whole.{whole_size}
 use Rattle.judgement.proofs.Usable.{held_usable, held_spans}
 use Rattle.judgement.proofs.Arrays.{side_in}
-use borrow.Author.Rules.{rules}
 use Rattle.judgement.proofs.question.asked_of.Goals as goal
 
 pub returns-then-b-x : goal.returns-then-b-x

@@ -1,8 +1,7 @@
 -- The array holds, for every lightpath that there is, whether its words share no bit with the set. So the side by the array is the side by that test:
 -- `table_side`.
-use mathlib.Core.Path.{◌≡◌, ap, ◌∙◌}
+use mathlib.Core.Path.{ap, ◌∙◌}
 use native.Mathlib.Omega.{arith}
-use lib.ListN.{length}
 use Rattle.judgement.specs.Network.{side_of}
 use Rattle.judgement.specs.Inside.{net_of, clear}
 use Rattle.judgement.proofs.Tables.{table_side}

@@ -1,10 +1,7 @@
 -- After k turns the array is the table of the first k places. Each store is one place more, by the bits that the lightpath's words share with the set.
-use borrow.Author.Rules.{rules}
-use mathlib.Core.Path.{◌≡◌, refl}
-use Prim.Native.Nat.{◌-◌, ◌≤◌, zero-le}
-use native.Mathlib.Nat.{le_antisymm}
+use mathlib.Core.Path.{◌≡◌}
+use Prim.Native.Nat.{◌-◌, ◌≤◌}
 use Rattle.judgement.specs.Inside.{up_table, clear}
-use Rattle.judgement.proofs.Tables.{table_none, table_more}
 use Rattle.judgement.proofs.question.up_with.Given as goal
 
 abbrev pub invariant-loop-k : goal.invariant-loop-k

@@ -1,12 +1,9 @@
 -- The lightpaths passed have no ring to merge, so the first of all that has one is the first of those left.
-use borrow.Author.Rules.{rules}
-use mathlib.Core.Path.{sym, ◌∙◌}
 use Prim.Native.Nat.{◌-◌}
 use Rattle.judgement.specs.Inside.{net_of}
 use Rattle.judgement.specs.Merge.{merges_by, ring_at}
 use Rattle.judgement.specs.declared.ring.Ring.TheVariants.{Nothing}
-use Rattle.judgement.proofs.First.{Looking, looking_start, looking_next, looking_hit, looking_end}
-use Rattle.judgement.proofs.Trails.{ring_hit, ring_miss}
+use Rattle.judgement.proofs.First.{Looking}
 use Rattle.judgement.proofs.ring.first_ring.Given as goal
 
 abbrev pub invariant-loop-k : goal.invariant-loop-k

@@ -1,5 +1,4 @@
 -- Where the way is in the set it stays; else the lightpath that is found is one of the n, and is put to the trail.
-use borrow.Author.Rules.{rules}
 use mathlib.Core.Path.{sym, ◌∙◌}
 use native.Mathlib.Omega.{arith}
 use Prim.Native.Nat.{◌<◌}

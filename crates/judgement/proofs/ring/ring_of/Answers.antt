@@ -1,10 +1,8 @@
 -- Each test that fails says that there is no ring to merge, and where all are passed the ring is what the trail gathered.
 -- The tests are those of the definition, in its order.
-use borrow.Author.Rules.{rules}
 use Prim.Native.Nat.{ℕ}
 use mathlib.Core.Path.{◌≡◌, ◌∙◌}
 use mathlib.Core.Bool.{true}
-use borrow.Author.Tests.{not-true, not-false}
 use Rattle.book.specs.Bits.{has}
 use Rattle.judgement.specs.Network.{Network}
 use Rattle.judgement.specs.Ways.{near}

@@ -1,6 +1,5 @@
 -- The trail starts with lightpath k, which leads from its "to" to its "from". At each turn the way comes one round nearer.
 -- What is left of it gathers the rest of the ring: nothing at the end.
-use borrow.Author.Rules.{rules}
 use mathlib.Core.Path.{◌≡◌}
 use native.Mathlib.Omega.{arith}
 use Prim.Native.Nat.{ℕ, ◌-◌, ◌≤◌, ◌<◌}
@@ -9,7 +8,7 @@ use Rattle.judgement.specs.Network.{Network}
 use Rattle.judgement.specs.Ways.{near}
 use Rattle.judgement.specs.Inside.{net_of}
 use Rattle.judgement.specs.Merge.{but}
-use Rattle.judgement.proofs.Trails.{Trailing, trailing_start, trailing_leads, trailing_next, trailing_done}
+use Rattle.judgement.proofs.Trails.{trailing_start, trailing_leads, trailing_next, trailing_done}
 use Rattle.judgement.proofs.ring.ring_trail.Goals as goal
 use Rattle.judgement.proofs.ring.ring_trail.Goals.{After-sets-1, In-loop-left}
 

@@ -1,11 +1,8 @@
 -- After k turns the array is the table of the first k places. Each store is one place more.
-use borrow.Author.Rules.{rules}
-use mathlib.Core.Path.{◌≡◌, refl}
+use mathlib.Core.Path.{◌≡◌}
 use mathlib.Core.Bool.{true}
-use Prim.Native.Nat.{◌-◌, ◌≤◌, zero-le}
-use native.Mathlib.Nat.{le_antisymm}
+use Prim.Native.Nat.{◌-◌, ◌≤◌}
 use Rattle.judgement.specs.Inside.{up_table}
-use Rattle.judgement.proofs.Tables.{table_none, table_more}
 use Rattle.judgement.proofs.side.all_up.Given as goal
 
 abbrev pub invariant-loop-k : goal.invariant-loop-k

@@ -1,12 +1,7 @@
 -- The side holds only what is joined to the start, and what its nodes lead to once they are taken; each turn takes a node that was not taken before.
 -- When all are taken it is the side of the start: `working_end`.
-use borrow.Author.Rules.{rules}
-use mathlib.Core.Bool.{Bool}
-use Prim.Native.Nat.{ℕ, ◌-◌}
 use Rattle.book.proofs.Bits.{put_zero}
-use Rattle.judgement.specs.Network.{Network}
-use Rattle.judgement.specs.Inside.{Led, size}
-use Rattle.judgement.proofs.Worklist.{Working, working_start, next_lt, taken_once, working_next, working_end}
+use Rattle.judgement.proofs.Worklist.{working_start, next_lt, taken_once, working_next, working_end}
 use Rattle.judgement.proofs.side.grow.Goals as goal
 
 pub loop-g-init : goal.loop-g-init

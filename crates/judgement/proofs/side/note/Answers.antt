@@ -1,6 +1,4 @@
 -- The row of one end takes both ends, and then the row of the other does; where the lightpath is not up nothing is stored.
-use borrow.Author.Rules.{rules}
-use mathlib.Core.Path.{◌≡◌}
 use Rattle.judgement.proofs.side.note.Goals as goal
 
 pub returns-then-up : goal.returns-then-up

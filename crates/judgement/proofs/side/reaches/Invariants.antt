@@ -1,14 +1,10 @@
 -- The side grows as in `grow`. What it holds so far is in the whole side, so that a node found in it is joined; and when all its nodes are taken it is
 -- the whole side, so that a node not found in it is not.
-use borrow.Author.Rules.{rules}
-use mathlib.Core.Path.{sym}
 use mathlib.Core.Bool.{Bool}
 use Prim.Native.Nat.{ℕ, ◌-◌}
-use Rattle.book.proofs.Bits.{put_zero}
 use Rattle.judgement.specs.Network.{Network}
 use Rattle.judgement.specs.Inside.{Led, size}
-use Rattle.judgement.proofs.Joins.{in_side}
-use Rattle.judgement.proofs.Worklist.{Working, working_start, next_lt, taken_once, working_next, working_end}
+use Rattle.judgement.proofs.Worklist.{Working}
 use Rattle.judgement.proofs.side.reaches.Given as goal
 
 abbrev pub invariant-loop-g : goal.invariant-loop-g

@@ -1,10 +1,6 @@
 -- After k turns the rows lead along the first k lightpaths. Each turn notes one more: `leads_more`.
-use borrow.Author.Rules.{rules}
-use Prim.Native.Nat.{◌-◌, ◌≤◌, zero-le}
-use native.Mathlib.Nat.{le_antisymm}
+use Prim.Native.Nat.{◌-◌, ◌≤◌}
 use Rattle.judgement.specs.Inside.{net_of, up_of, Leads}
-use Rattle.judgement.proofs.Tables.{ends}
-use Rattle.judgement.proofs.Rows.{leads_none, leads_more}
 use Rattle.judgement.proofs.side.rows_of.Given as goal
 
 abbrev pub invariant-loop-k : goal.invariant-loop-k

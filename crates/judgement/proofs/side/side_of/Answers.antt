@@ -1,5 +1,4 @@
 -- The rows lead as the lightpaths do that are up, so what grows by them is the side.
-use borrow.Author.Rules.{rules}
 use Rattle.judgement.proofs.side.side_of.Goals as goal
 
 pub grow-requires : goal.grow-requires

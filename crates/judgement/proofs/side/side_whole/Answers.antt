@@ -1,5 +1,4 @@
 -- The array holds true for every lightpath that there is. So the side by the array is the side with all of them up: `table_side`.
-use borrow.Author.Rules.{rules}
 use Rattle.judgement.proofs.Tables.{table_side}
 use Rattle.judgement.proofs.side.side_whole.Goals as goal
 

@@ -1,5 +1,4 @@
 -- The array holds, for every lightpath that there is, whether its word lacks the bit. So the side by the array is the side by that test: `table_side`.
-use borrow.Author.Rules.{rules}
 use Rattle.judgement.proofs.Tables.{table_side}
 use Rattle.judgement.proofs.side.side_without.Goals as goal
 

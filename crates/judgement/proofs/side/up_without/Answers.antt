@@ -1,10 +1,9 @@
 -- After k turns the array is the table of the first k places. Each store is one place more, by the bit of the lightpath's word.
 use borrow.Author.Rules.{rules}
-use mathlib.Core.Path.{◌≡◌, ap}
+use mathlib.Core.Path.{ap}
 use mathlib.Core.Bool.{not}
-use Prim.Native.Nat.{◌-◌, ◌≤◌, zero-le}
+use Prim.Native.Nat.{zero-le}
 use native.Mathlib.Nat.{le_antisymm}
-use Rattle.judgement.specs.Inside.{up_table, unset}
 use Rattle.judgement.proofs.Tables.{table_none, table_more}
 use Rattle.judgement.proofs.side.up_without.Goals as goal
 

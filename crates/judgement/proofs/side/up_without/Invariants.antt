@@ -1,11 +1,7 @@
 -- After k turns the array is the table of the first k places. Each store is one place more, by the bit of the lightpath's word.
-use borrow.Author.Rules.{rules}
-use mathlib.Core.Path.{◌≡◌, ap}
-use mathlib.Core.Bool.{not}
-use Prim.Native.Nat.{◌-◌, ◌≤◌, zero-le}
-use native.Mathlib.Nat.{le_antisymm}
+use mathlib.Core.Path.{◌≡◌}
+use Prim.Native.Nat.{◌-◌, ◌≤◌}
 use Rattle.judgement.specs.Inside.{up_table, unset}
-use Rattle.judgement.proofs.Tables.{table_none, table_more}
 use Rattle.judgement.proofs.side.up_without.Given as goal
 
 abbrev pub invariant-loop-k : goal.invariant-loop-k

@@ -1,6 +1,5 @@
 -- The first span over its limit is the verdict, or what follows where there is none: whether the network is split, and else what the walk told.
 -- F is what the walk counted and Fc what the loads have above the limits, whatever the verdict is.
-use borrow.Author.Rules.{rules}
 use Prim.Native.Nat.{ℕ}
 use mathlib.Core.Path.{◌≡◌, sym, ap, ap₂, ◌∙◌}
 use mathlib.Core.Bool.{true}

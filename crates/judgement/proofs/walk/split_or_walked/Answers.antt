@@ -1,5 +1,4 @@
 -- Whether the network is split is one comparison of sets; where it is not, the walk's verdict is the answer.
-use borrow.Author.Rules.{rules}
 use mathlib.Core.Path.{◌∙◌}
 use Rattle.judgement.proofs.Found.{is_split, not_split}
 use Rattle.judgement.proofs.walk.split_or_walked.Goals as goal

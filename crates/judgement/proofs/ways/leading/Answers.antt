@@ -1,11 +1,8 @@
 -- The lightpaths passed lead nowhere, so the first of all that leads is the first of those left.
-use borrow.Author.Rules.{rules}
 use mathlib.Core.Path.{sym, ◌∙◌}
-use Prim.Native.Nat.{◌-◌}
 use Rattle.judgement.specs.Ways.{leads}
-use Rattle.judgement.specs.Inside.{net_of}
-use Rattle.judgement.specs.Merge.{but, leads_by}
-use Rattle.judgement.proofs.First.{Looking, looking_start, looking_next, looking_hit, looking_end}
+use Rattle.judgement.specs.Merge.{leads_by}
+use Rattle.judgement.proofs.First.{looking_start, looking_next, looking_hit, looking_end}
 use Rattle.judgement.proofs.ways.leading.Goals as goal
 
 pub loop-k-init : goal.loop-k-init

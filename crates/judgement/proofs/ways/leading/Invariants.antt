@@ -1,11 +1,9 @@
 -- The lightpaths passed lead nowhere, so the first of all that leads is the first of those left.
-use borrow.Author.Rules.{rules}
-use mathlib.Core.Path.{sym, ◌∙◌}
 use Prim.Native.Nat.{◌-◌}
 use Rattle.judgement.specs.Ways.{leads}
 use Rattle.judgement.specs.Inside.{net_of}
-use Rattle.judgement.specs.Merge.{but, leads_by}
-use Rattle.judgement.proofs.First.{Looking, looking_start, looking_next, looking_hit, looking_end}
+use Rattle.judgement.specs.Merge.{but}
+use Rattle.judgement.proofs.First.{Looking}
 use Rattle.judgement.proofs.ways.leading.Given as goal
 
 abbrev pub invariant-loop-k : goal.invariant-loop-k

@@ -1,6 +1,5 @@
 -- The branches are the cases of the definition: not to be used, x the first end, x the second, neither.
 -- Where x is the first end the set need not be asked about the second case: `leads_first`.
-use borrow.Author.Rules.{rules}
 use mathlib.Core.Path.{◌∙◌}
 use borrow.Author.Tests.{eq-eqb, ne_eqb}
 use Rattle.judgement.specs.Merge.{leads_by}

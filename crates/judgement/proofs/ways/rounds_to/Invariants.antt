@@ -1,11 +1,8 @@
 -- The array holds the rounds up to the last, and the set is the last one. No later round tells more of x once one meets it or adds nothing.
-use borrow.Author.Rules.{rules}
-use mathlib.Core.Path.{sym, ◌∙◌}
-use Prim.Native.Nat.{ℕ, ◌-◌}
-use lib.ListN.{replicate, length-replicate}
+use Prim.Native.Nat.{◌-◌}
 use Rattle.judgement.specs.Inside.{net_of}
 use Rattle.judgement.specs.Merge.{but}
-use Rattle.judgement.proofs.Trails.{Rounding, rounding_start, rounding_next, rounding_met, rounding_same, rounding_all}
+use Rattle.judgement.proofs.Trails.{Rounding}
 use Rattle.judgement.proofs.ways.rounds_to.Given as goal
 
 abbrev pub invariant-loop-last : goal.invariant-loop-last

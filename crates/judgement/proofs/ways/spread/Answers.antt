@@ -1,6 +1,5 @@
 -- The branches are the cases of the definition: not to be used, the first end in the set, the second in it, neither.
 -- The test of each branch decides the definition's own.
-use borrow.Author.Rules.{rules}
 use mathlib.Core.Path.{sym, ◌∙◌}
 use Rattle.judgement.specs.Merge.{spread_by}
 use Rattle.judgement.proofs.ways.spread.Goals as goal

@@ -4,7 +4,6 @@ use mathlib.Core.List.{[]}
 use Rattle.listing.specs.Commands.{choice_line}
 use Rattle.listing.proofs.Texts.{adds_then, adds_as}
 use Rattle.listing.proofs.Listings.{total_of}
-use borrow.Author.Rules.{rules}
 use Rattle.listing.proofs.commands.choice_lines.Goals as goal
 
 pub returns : goal.returns

@@ -1,6 +1,5 @@
 -- The first byte decides whether the second is looked at, in the code as in the definition.
 use borrow.Author.Tests.{eq-eqb, ne_eqb}
-use borrow.Author.Rules.{rules}
 use Rattle.listing.proofs.commands.is_refusal.Goals as goal
 
 pub returns-then-bytes-eq66 : goal.returns-then-bytes-eq66

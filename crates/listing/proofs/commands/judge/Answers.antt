@@ -8,7 +8,6 @@ use Rattle.judgement.proofs.Opened.{opened, opened_refused}
 use Rattle.listing.specs.Text.{text_of}
 use Rattle.listing.specs.Commands.{judge_of}
 use Rattle.listing.proofs.Listings.{judge_good}
-use borrow.Author.Rules.{rules}
 use Rattle.listing.proofs.commands.judge.Goals as goal
 
 pub returns-in-Good : goal.returns-in-Good

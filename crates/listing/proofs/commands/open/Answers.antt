@@ -5,7 +5,6 @@ use Rattle.judgement.specs.declared.Asked.{Asked}
 use Rattle.listing.specs.Text.{text_of}
 use Rattle.listing.specs.Commands.{open_of}
 use Rattle.listing.proofs.Texts.{adds_then}
-use borrow.Author.Rules.{rules}
 use Rattle.listing.proofs.commands.open.Goals as goal
 
 pub returns-in-Told : goal.returns-in-Told

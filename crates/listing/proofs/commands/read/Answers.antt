@@ -10,7 +10,6 @@ use Rattle.listing.specs.Commands.{choices_line, read_of}
 use Rattle.listing.proofs.Texts.{adds_then, adds_as}
 use Rattle.listing.proofs.Listings.{total_of}
 use Rattle.listing.proofs.Reports.{refused_text}
-use borrow.Author.Rules.{rules}
 use Rattle.listing.proofs.commands.read.Goals as goal
 use Rattle.listing.proofs.commands.read.Goals.{In-Good}
 

@@ -9,7 +9,6 @@ use Rattle.listing.specs.Commands.{search_of}
 use Rattle.listing.proofs.Texts.{adds_then}
 use Rattle.listing.proofs.Listings.{search_good}
 use Rattle.listing.proofs.Reports.{refused_text}
-use borrow.Author.Rules.{rules}
 use Rattle.listing.proofs.commands.search.Goals as goal
 use Rattle.listing.proofs.commands.search.Goals.{In-Good}
 

@@ -5,7 +5,6 @@ use Rattle.book.specs.declared.write.Written.{Written}
 use Rattle.listing.specs.Text.{text_of}
 use Rattle.listing.specs.Commands.{write_of}
 use Rattle.listing.proofs.Texts.{adds_then}
-use borrow.Author.Rules.{rules}
 use Rattle.listing.proofs.commands.written.Goals as goal
 
 pub returns-in-Length : goal.returns-in-Length

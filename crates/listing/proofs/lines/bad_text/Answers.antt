@@ -1,7 +1,6 @@
 -- The line of the refusal, and the last line.
 use mathlib.Core.List.{[]}
 use Rattle.listing.proofs.Texts.{adds_then}
-use borrow.Author.Rules.{rules}
 use Rattle.listing.proofs.lines.bad_text.Goals as goal
 
 pub returns : goal.returns

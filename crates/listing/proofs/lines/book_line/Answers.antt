@@ -4,7 +4,6 @@ use Rattle.book.specs.declared.Book.{Book}
 use Rattle.listing.specs.Report.{word_book, line}
 use mathlib.Core.List.{◌∷◌, []}
 use Rattle.listing.proofs.Texts.{adds_then, adds_as}
-use borrow.Author.Rules.{rules}
 use Rattle.listing.proofs.lines.book_line.Goals as goal
 
 pub returns : goal.returns

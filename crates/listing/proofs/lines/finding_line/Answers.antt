@@ -2,7 +2,6 @@
 use mathlib.Core.Path.{sym, ap}
 use Rattle.listing.specs.Report.{finding_line}
 use Rattle.listing.proofs.Texts.{adds_then, adds_as}
-use borrow.Author.Rules.{rules}
 use Rattle.listing.proofs.lines.finding_line.Goals as goal
 
 pub returns-in-Found : goal.returns-in-Found

@@ -2,7 +2,6 @@
 use mathlib.Core.Path.{sym, ap}
 use Rattle.listing.specs.Commands.{joined_line}
 use Rattle.listing.proofs.Texts.{adds_then, adds_as}
-use borrow.Author.Rules.{rules}
 use Rattle.listing.proofs.lines.joined_line.Goals as goal
 
 pub returns-then-all : goal.returns-then-all

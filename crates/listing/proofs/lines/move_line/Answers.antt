@@ -5,7 +5,6 @@ use mathlib.Core.List.{◌∷◌, []}
 use borrow.Author.Tests.{eq-eqb, ne_eqb}
 use Rattle.listing.specs.Report.{word_move, line}
 use Rattle.listing.proofs.Texts.{adds_none, adds_then, adds_as}
-use borrow.Author.Rules.{rules}
 use Rattle.listing.proofs.lines.move_line.Goals as goal
 
 pub returns-then-d-eq0 : goal.returns-then-d-eq0

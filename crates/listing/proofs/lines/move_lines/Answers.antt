@@ -1,5 +1,5 @@
 -- After i turns the text has the lines of the first i digits. The arrays hold the movable lightpaths of the book and the digits of the choice.
-use Prim.Native.Nat.{◌-◌, ◌≤◌, zero-le}
+use Prim.Native.Nat.{zero-le}
 use mathlib.Core.Path.{◌≡◌, ap, ◌∙◌}
 use native.Mathlib.Omega.{arith}
 use Rattle.book.specs.declared.Book.{Book}
@@ -7,7 +7,6 @@ use Rattle.book.specs.declared.choice.Movables.{Movables}
 use Rattle.book.specs.declared.choice.Choice.{Choice}
 use Rattle.book.specs.Moving.{movables_in, choice_in}
 use Rattle.listing.specs.Report.{move_lines}
-use Rattle.listing.specs.Inside.{Adds}
 use Rattle.listing.proofs.Texts.{adds_none, adds_then, adds_as}
 use Rattle.listing.proofs.Moves.{moves_none, moves_next, moves_held}
 use borrow.Author.Rules.{rules}

@@ -2,7 +2,6 @@
 use mathlib.Core.Path.{sym, ap}
 use Rattle.listing.specs.Report.{site_line}
 use Rattle.listing.proofs.Texts.{adds_then, adds_as}
-use borrow.Author.Rules.{rules}
 use Rattle.listing.proofs.lines.site_line.Goals as goal
 
 pub returns-in-Down : goal.returns-in-Down

@@ -1,6 +1,5 @@
 -- The word, the number, and then the end of the line.
 use Rattle.listing.proofs.Texts.{adds_then}
-use borrow.Author.Rules.{rules}
 use Rattle.listing.proofs.lines.written_line.Goals as goal
 
 pub returns : goal.returns

@@ -1,10 +1,9 @@
 -- After i bytes, what they are, taken on with the bytes that are left, is what the word is.
-use Prim.Native.Nat.{◌+◌, ◌-◌, ◌≤◌, zero-le}
-use mathlib.Core.Path.{◌≡◌, refl, sym, ap, ◌∙◌}
+use Prim.Native.Nat.{◌+◌, zero-le}
+use mathlib.Core.Path.{refl, sym, ap, ◌∙◌}
 use native.Mathlib.Omega.{arith}
-use lib.ListN.{length, drop}
+use lib.ListN.{drop}
 use Rattle.listing.specs.declared.number.Parsed.{Parsed}
-use Rattle.listing.specs.declared.number.Parsed.TheVariants.{Empty}
 use Rattle.listing.proofs.Numbers.{taken_on, on_next, on_done, on_empty}
 use borrow.Author.Rules.{rules}
 use Rattle.listing.proofs.number.parse.Goals as goal

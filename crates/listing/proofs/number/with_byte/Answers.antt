@@ -7,7 +7,6 @@ use Rattle.listing.specs.Inside.{with_value, with_byte}
 use Rattle.listing.specs.declared.number.Parsed.{Parsed}
 use Rattle.listing.specs.declared.number.Parsed.TheVariants.{NotDigits}
 use Rattle.listing.proofs.Numbers.{digit_is, low_is_none, high_is_none}
-use borrow.Author.Rules.{rules}
 use Rattle.listing.proofs.number.with_byte.Goals as goal
 
 by : (p : Parsed) (c : ℕ) {t : Bool} → is_digit c ≡ t → with_byte p c ≡ cond t (with_value p (c - 48)) NotDigits

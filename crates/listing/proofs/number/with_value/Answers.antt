@@ -2,7 +2,6 @@
 use mathlib.Core.Path.{sym, ap, ◌∙◌}
 use Rattle.listing.specs.Inside.{with_value}
 use Rattle.listing.specs.declared.number.Parsed.{Parsed}
-use borrow.Author.Rules.{rules}
 use Rattle.listing.proofs.number.with_value.Goals as goal
 
 pub returns-in-Number : goal.returns-in-Number

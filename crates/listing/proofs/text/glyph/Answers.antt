@@ -1,7 +1,6 @@
 -- A digit below ten is one of 0 to 9, and any other one of a to f.
 use mathlib.Core.Path.{sym}
 use borrow.Author.Tests.{lt-ltb, le-ltb}
-use borrow.Author.Rules.{rules}
 use Rattle.listing.proofs.text.glyph.Goals as goal
 
 pub returns-then-d-lt10 : goal.returns-then-d-lt10

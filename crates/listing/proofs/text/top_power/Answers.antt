@@ -1,7 +1,7 @@
 -- While the quotient has two digits or more the next power is reached too; then the number has one digit more than the power has noughts.
-use Prim.Native.Nat.{◌-◌, ◌^◌, ◌<◌}
+use Prim.Native.Nat.{◌^◌, ◌<◌}
 use native.Mathlib.Omega.{arith}
-use Rattle.listing.proofs.Spelling.{Reached, reached_start, reached_pos, reached_low, reached_next, reached_done}
+use Rattle.listing.proofs.Spelling.{reached_start, reached_pos, reached_low, reached_next, reached_done}
 use borrow.Author.Rules.{rules}
 use Rattle.listing.proofs.text.top_power.Goals as goal
 use Rattle.listing.proofs.text.top_power.Goals.{In-loop-p}

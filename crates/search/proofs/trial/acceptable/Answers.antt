@@ -3,7 +3,6 @@ use mathlib.Core.Path.{◌≡◌, sym, ap, ◌∙◌}
 use Rattle.judgement.specs.Judgement.{is_okay}
 use Rattle.judgement.specs.Arrays.{verdict_in}
 use Rattle.search.specs.Inside.{acceptable_in}
-use borrow.Author.Rules.{rules}
 use Rattle.search.proofs.trial.acceptable.Goals as goal
 use Rattle.search.proofs.trial.acceptable.Goals.{After-verdict_of-v}
 

@@ -1,6 +1,5 @@
 -- Both numbers are what `number` says, so the test of the code is that of the contract.
 -- Nothing else is asked.
-use borrow.Author.Rules.{rules}
 use Rattle.book.proofs.choice.Choice.before.Goals as goal
 
 pub returns : goal.returns

@@ -4,11 +4,11 @@ use mathlib.Core.Path.{ap}
 use mathlib.Core.List.{List}
 use mir.Syntax.{w8}
 use mir.Val.{Fits}
-use Prim.Native.Nat.{ℕ, ◌-◌, ◌≤◌}
+use Prim.Native.Nat.{ℕ, ◌≤◌}
 use native.Mathlib.Nat.{le_antisymm}
 use native.Mathlib.Omega.{arith}
 use lib.ListN.{get_or}
-use Rattle.book.proofs.Digits.{Stepping, stepping_start, stepping_hit, stepping_next, stepping_end, same}
+use Rattle.book.proofs.Digits.{stepping_start, stepping_hit, stepping_next, stepping_end, same}
 use borrow.Author.Rules.{rules}
 use Rattle.book.proofs.choice.Choice.next.Goals as goal
 use Rattle.book.proofs.choice.Choice.next.Goals.{After-d-1-unread}

@@ -1,12 +1,12 @@
 -- After i digits, the sum so far and the sum of those left, with the weight of digit i, make the number.
 -- The weight is at most 8 to the power i and a digit is a byte, which bounds the sum.
-use Prim.Native.Nat.{◌-◌, ◌*◌, ◌^◌, ◌≤◌}
+use Prim.Native.Nat.{◌*◌, ◌^◌, ◌≤◌}
 use mir.Syntax.{w8}
 use mir.Val.{Fits}
 use native.Mathlib.Nat.{le_antisymm, mul_comm}
 use native.Mathlib.Omega.{arith}
 use lib.ListN.{get_or}
-use Rattle.book.proofs.Digits.{Weighing, weighing_start, weighing_next, weighing_end, times_size, size_most, digit_times, power}
+use Rattle.book.proofs.Digits.{weighing_start, weighing_next, weighing_end, times_size, size_most, digit_times, power}
 use borrow.Author.Rules.{rules}
 use Rattle.book.proofs.choice.Choice.number.Goals as goal
 use Rattle.book.proofs.choice.Choice.number.Goals.{In-loop-i-unread-2}

@@ -2,11 +2,11 @@
 -- A remainder by a size is below 8, so it is a byte.
 use mathlib.Core.Path.{ap}
 use mathlib.Core.List.{List}
-use Prim.Native.Nat.{ℕ, ◌-◌}
+use Prim.Native.Nat.{ℕ}
 use native.Mathlib.Nat.{le_antisymm, mod-lt}
 use native.Mathlib.Omega.{arith}
 use lib.ListN.{get_or}
-use Rattle.book.proofs.Digits.{Splitting, splitting_start, splitting_next, splitting_end, size_most}
+use Rattle.book.proofs.Digits.{splitting_start, splitting_next, splitting_end, size_most}
 use borrow.Author.Rules.{rules}
 use Rattle.book.proofs.choice.Choice.of.Goals as goal
 

@@ -1,13 +1,7 @@
 -- After i digits, those found and the digits of what is left of the number make the digits of the number.
 -- A remainder by a size is below 8, so it is a byte.
-use mathlib.Core.Path.{ap}
-use mathlib.Core.List.{List}
-use Prim.Native.Nat.{ℕ, ◌-◌}
-use native.Mathlib.Nat.{le_antisymm, mod-lt}
-use native.Mathlib.Omega.{arith}
-use lib.ListN.{get_or}
-use Rattle.book.proofs.Digits.{Splitting, splitting_start, splitting_next, splitting_end, size_most}
-use borrow.Author.Rules.{rules}
+use Prim.Native.Nat.{◌-◌}
+use Rattle.book.proofs.Digits.{Splitting}
 use Rattle.book.proofs.choice.Choice.of.Given as goal
 
 abbrev pub invariant-loop-i : goal.invariant-loop-i

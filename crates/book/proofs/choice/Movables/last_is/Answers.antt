@@ -2,7 +2,6 @@
 -- The test of the definition comes out the same way in both cases.
 use native.Mathlib.Omega.{arith}
 use borrow.Author.Tests.{lt-ltb}
-use borrow.Author.Rules.{rules}
 use Rattle.book.proofs.choice.Movables.last_is.Goals as goal
 
 pub returns-then-n-eq0 : goal.returns-then-n-eq0

@@ -4,8 +4,7 @@ use mathlib.Core.Path.{ap, ◌∙◌}
 use native.Mathlib.Nat.{le_antisymm}
 use native.Mathlib.Omega.{arith}
 use Rattle.book.specs.Moving.{no_movables, gathered}
-use Prim.Native.Nat.{◌-◌}
-use Rattle.book.proofs.Movables.{Gathering, gathering_start, gathering_next, gathering_end, take_min}
+use Rattle.book.proofs.Movables.{gathering_start, gathering_next, gathering_end, take_min}
 use borrow.Author.Rules.{rules}
 use Rattle.book.proofs.choice.Movables.of.Goals as goal
 

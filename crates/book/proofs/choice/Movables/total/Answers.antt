@@ -3,8 +3,7 @@
 use native.Mathlib.Nat.{le_antisymm}
 use native.Mathlib.Omega.{arith}
 use lib.ListN.{get_or}
-use Prim.Native.Nat.{◌-◌}
-use Rattle.book.proofs.Digits.{Multiplied, multiplied_start, multiplied_next, multiplied_end, times_size, size_most}
+use Rattle.book.proofs.Digits.{multiplied_start, multiplied_next, multiplied_end, times_size, size_most}
 use borrow.Author.Rules.{rules}
 use Rattle.book.proofs.choice.Movables.total.Goals as goal
 

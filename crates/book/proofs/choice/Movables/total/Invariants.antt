@@ -1,11 +1,7 @@
 -- After i sizes, the product so far times the product of those left is the product of all.
 -- It is at most 8 to the power i, so that no step leaves 32 bits.
-use native.Mathlib.Nat.{le_antisymm}
-use native.Mathlib.Omega.{arith}
-use lib.ListN.{get_or}
 use Prim.Native.Nat.{◌-◌}
-use Rattle.book.proofs.Digits.{Multiplied, multiplied_start, multiplied_next, multiplied_end, times_size, size_most}
-use borrow.Author.Rules.{rules}
+use Rattle.book.proofs.Digits.{Multiplied}
 use Rattle.book.proofs.choice.Movables.total.Given as goal
 
 abbrev pub invariant-loop-i : goal.invariant-loop-i

@@ -2,7 +2,6 @@
 -- Each returns what its law in Movables.antt says.
 use mathlib.Core.Path.{sym, ◌∙◌}
 use Rattle.book.proofs.Movables.{last_some, with_last, with_first, with_ninth}
-use borrow.Author.Rules.{rules}
 use Rattle.book.proofs.choice.Movables.with_one.Goals as goal
 
 pub with_more-requires : goal.with_more-requires

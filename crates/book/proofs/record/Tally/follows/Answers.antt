@@ -1,5 +1,4 @@
 -- Each test that fails makes the conjunction false; where none of the lightpath is held yet only the ninth is tested, else only the eighth.
-use borrow.Author.Rules.{rules}
 use native.Mathlib.Omega.{arith}
 use borrow.Author.Tests.{lt-ltb, le-ltb, le-leb, lt-leb}
 use mathlib.Core.Path.{◌≡◌, refl, sym, ◌∙◌}

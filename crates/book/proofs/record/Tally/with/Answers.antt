@@ -1,6 +1,5 @@
 -- The three numbers are those of the definition; none can pass 255, since a lightpath holds no more than are the last one's.
 use native.Mathlib.Omega.{arith}
-use borrow.Author.Rules.{rules}
 use Rattle.book.proofs.Tallies.{held_most}
 use Rattle.book.proofs.record.Tally.with.Goals as goal
 

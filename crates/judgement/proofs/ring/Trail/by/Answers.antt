@@ -1,5 +1,4 @@
 -- Each field of the trail is made by its own function, from the same field before.
-use borrow.Author.Rules.{rules}
 use Rattle.judgement.proofs.ring.Trail.by.Goals as goal
 
 pub returns : goal.returns

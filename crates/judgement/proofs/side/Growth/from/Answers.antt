@@ -1,5 +1,4 @@
 -- The one node is put into the empty set.
-use borrow.Author.Rules.{rules}
 use mathlib.Core.Path.{ap}
 use Prim.Native.Nat.{ℕ}
 use Rattle.judgement.specs.Inside.{growth}

@@ -1,5 +1,4 @@
 -- Each call says what it does to the two words; the node that is taken is the same in both.
-use borrow.Author.Rules.{rules}
 use mathlib.Core.Path.{◌≡◌, ap, ap₂, ◌∙◌}
 use native.Mathlib.Omega.{arith}
 use lib.Bits.{bit_or}

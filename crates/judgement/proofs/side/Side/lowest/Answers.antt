@@ -1,5 +1,4 @@
 -- The machine's count of trailing noughts is the definition's. It is at most 64, so one byte holds it.
-use borrow.Author.Rules.{rules}
 use native.Mathlib.Omega.{arith}
 use lib.Count.{trailing_le}
 use Rattle.judgement.proofs.side.Side.lowest.Goals as goal

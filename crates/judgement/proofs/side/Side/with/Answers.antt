@@ -1,5 +1,4 @@
 -- A one shifted by i is the set of i alone, and an or puts it in. The law is `machine_put`.
-use borrow.Author.Rules.{rules}
 use Rattle.book.proofs.Bits.{machine_put}
 use Rattle.judgement.proofs.side.Side.with.Goals as goal
 

@@ -1,5 +1,4 @@
 -- Each of the two ors puts one node in, first a and then b. The law of both is `machine_put`.
-use borrow.Author.Rules.{rules}
 use Rattle.book.proofs.Bits.{machine_put}
 use Rattle.judgement.proofs.side.Side.with_ends.Goals as goal
 

@@ -1,6 +1,5 @@
 -- While there is room the byte is stored behind the others; where there is none the text stays.
 use Rattle.listing.proofs.Texts.{adds_byte, adds_full}
-use borrow.Author.Rules.{rules}
 use Rattle.listing.proofs.text.Text.byte.Goals as goal
 
 pub returns-then-self-lt1024 : goal.returns-then-self-lt1024

@@ -1,10 +1,8 @@
 -- Each turn writes the digit at one power of the base, from the first power on; after the last there is none left.
-use Prim.Native.Nat.{ℕ, ◌-◌, ◌/◌, ◌^◌, ◌<◌}
-use mathlib.Core.Path.{◌≡◌}
+use Prim.Native.Nat.{◌/◌}
 use native.Mathlib.Nat.{mod-lt, div-lt_self}
 use native.Mathlib.Omega.{arith}
-use Rattle.listing.proofs.Spelling.{Spelled, spelled_start, spelled_next, spelled_done}
-use borrow.Author.Rules.{rules}
+use Rattle.listing.proofs.Spelling.{spelled_start, spelled_next, spelled_done}
 use Rattle.listing.proofs.text.Text.digits.Goals as goal
 
 pub loop-q-init : goal.loop-q-init

@@ -2,7 +2,6 @@
 use Rattle.listing.specs.Text.{width}
 use Rattle.listing.proofs.Texts.{adds_then}
 use Rattle.listing.proofs.Spelling.{width_pos}
-use borrow.Author.Rules.{rules}
 use Rattle.listing.proofs.text.Text.number.Goals as goal
 
 pub returns : goal.returns

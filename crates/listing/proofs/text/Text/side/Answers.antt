@@ -2,7 +2,6 @@
 use mathlib.Core.Path.{refl}
 use native.Mathlib.Omega.{arith}
 use Rattle.listing.proofs.Texts.{adds_then}
-use borrow.Author.Rules.{rules}
 use Rattle.listing.proofs.text.Text.side.Goals as goal
 
 pub returns : goal.returns

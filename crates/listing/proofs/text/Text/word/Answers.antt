@@ -1,10 +1,9 @@
 -- After j turns the text has the first j bytes of the word more.
-use Prim.Native.Nat.{ℕ, ◌-◌, ◌≤◌, zero-le}
+use Prim.Native.Nat.{ℕ, zero-le}
 use mathlib.Core.Path.{sym, ap, ◌∙◌}
 use native.Mathlib.Numerals.{add-one}
-use lib.ListN.{length, take}
+use lib.ListN.{take}
 use lib.Seq.{take-suc, take_all}
-use Rattle.listing.specs.Inside.{Adds}
 use Rattle.listing.proofs.Texts.{adds_none, adds_then, adds_as}
 use borrow.Author.Rules.{rules}
 use Rattle.listing.proofs.text.Text.word.Goals as goal

@@ -1,12 +1,7 @@
 -- After j turns the text has the first j bytes of the word more.
-use Prim.Native.Nat.{ℕ, ◌-◌, ◌≤◌, zero-le}
-use mathlib.Core.Path.{sym, ap, ◌∙◌}
-use native.Mathlib.Numerals.{add-one}
+use Prim.Native.Nat.{◌-◌, ◌≤◌}
 use lib.ListN.{length, take}
-use lib.Seq.{take-suc, take_all}
 use Rattle.listing.specs.Inside.{Adds}
-use Rattle.listing.proofs.Texts.{adds_none, adds_then, adds_as}
-use borrow.Author.Rules.{rules}
 use Rattle.listing.proofs.text.Text.word.Given as goal
 
 abbrev pub invariant-loop-j : goal.invariant-loop-j
