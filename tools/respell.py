@@ -41,7 +41,7 @@ def files(pattern):
 
 def new_names(paths):
     """What each own name becomes, and what would fall together with another name of its file: such a lemma keeps its dash, or takes `_lem` behind it."""
-    made, told = {}, []
+    made, lemmas, told = {}, {}, []
     for path in paths:
         for name in declared(path):
             if snake(name) != name:
@@ -58,8 +58,8 @@ def new_names(paths):
             dashed = {n for n in names if "-" in n}
             made.update({n: n for n in dashed})
             if len(names) > 1 and not dashed:
-                made[to] = to + "_lem"
-    return made, told
+                lemmas[to] = to + "_lem"
+    return made, lemmas, told
 
 
 def brought_in(text):
@@ -90,19 +90,21 @@ def write(path, old, new):
 
 def main():
     antt = files("crates/*/specs/**/*.antt") + files("crates/*/proofs/**/*.antt")
-    made, told = new_names(antt)
+    made, lemmas, told = new_names(antt)
     for path in antt + files("crates/*/src/**/*.rt"):
         text = open(path, encoding="utf-8").read()
         kit, own = brought_in(text)
         own |= set(declared(path)) if path.endswith(".antt") else set()
-        write(path, text, respelled(text, made, kit - own))
+        # a function of src/ may have the name of such a lemma, and steps of its callers too
+        here = {n: to for n, to in lemmas.items() if n in own}
+        write(path, text, respelled(text, made | here, kit - own))
     for path in files("docs/**/*.md") + files("*.md") + files("books/*.md"):
         text = open(path, encoding="utf-8").read()
-        write(path, text, re.sub(r"`[^`\n]+`", lambda m: respelled(m.group(0), made, set()), text))
+        write(path, text, re.sub(r"`[^`\n]+`", lambda m: respelled(m.group(0), made | lemmas, set()), text))
     for line in told:
         print(f"look: {line}")
-    for name in sorted(made):
-        print(f"{name} {made[name]}")
+    for name, to in sorted((made | lemmas).items()):
+        print(f"{name} {to}")
 
 
 main()
