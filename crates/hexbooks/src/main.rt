@@ -5,7 +5,7 @@
 // that starts with `#` and an empty line print nothing, and any other line prints `?`. Input past 524,288 bytes is not read.
 #![tactic(auto)]
 
-ghost use Rattle.std.specs.Prelude.{◌≤◌, length};
+ghost use Rattle.std.specs.Prelude.{◌≡◌, ◌≤◌, length};
 
 mod choices;
 mod found;
@@ -126,9 +126,16 @@ fn read_full<R: Read>(reader: &mut R, space: &mut [u8]) -> usize
     done
 }
 
+// An array of noughts. It is proved for every length, so that no proof counts the many of `main`.
+fn noughts<const N: usize>() -> [u8; N]
+    ensures { N ≡ length result }
+{
+    [0; N]
+}
+
 // Reads the whole input and goes through it.
 fn main(rt: HostRuntime) {
-    let mut text = [0u8; 524288];
+    let mut text: [u8; 524288] = noughts();
     let n = read_full(&mut rt.stdin(), &mut text);
     print_lines(&rt, &text[..n]);
 }
