@@ -1,81 +1,112 @@
 // What the programs share: a book is read from a file or from standard input, a text is printed on standard output, what went wrong is said on the error
-// output, and the status of the call is told to the launcher, since a program of this kit cannot end with one.
+// output, and the status of the call is told to the launcher on descriptor 3, while the program itself ends with 0.
 #![tactic(auto)]
 
-ghost use Rattle.std.specs.Prelude.{◌≤◌, length};
-ghost use Rattle.io.specs.Counts.{IsPrefixLen};
+ghost use Rattle.std.specs.Prelude.{◌≤◌, length, IfOk};
 
-use libc::{STDERR_FILENO, STDIN_FILENO, STDOUT_FILENO};
 use listing::commands;
 use listing::text::Text;
+use std::env::FillError;
+use std::fmt::InlineText;
+use std::fs::{File, OpenOptions};
+use std::io::{Error, ErrorKind, Read, Write};
+use std::rt::Env;
+use std::{fs, io, str, thread};
 
-// The descriptor that the status is told on.
-const STATUS: i32 = 3;
+// The descriptor that the status is told on, as a file.
+const STATUS: &str = "/dev/fd/3";
 
 // The statuses: the answer is given, and the book or a number is refused. Where there is no answer none is told.
 pub const SERVED: u8 = b'0';
 
 const REFUSED: u8 = b'1';
 
-// How far a book was read or a text was written: how many bytes, whether these are all that count, and whether a call failed.
+// The numbers that Linux gives to three errors: an argument that is missing, a name that is too long, and bytes that are no text.
+const MISSING: i32 = 22;
+
+const TOO_LONG: i32 = 36;
+
+const NO_TEXT: i32 = 84;
+
+// How far a book was read or a text was written: how many bytes, whether these are all that count, and why a call failed, where one did.
 #[derive(Clone, Copy)]
 pub struct Moved {
     pub len: usize,
     pub whole: bool,
-    pub failed: bool,
+    pub failed: Option<Error>,
 }
 
 // Says something on the error output.
-pub fn say(words: &[u8]) {
-    io::write_all(STDERR_FILENO, words);
+pub fn say(rt: &HostRuntime, words: &[u8]) {
+    let _ = rt.stderr().write_all(words);
+}
+
+// Why a call failed, in the system's words. The number that the library puts after them is left out.
+fn reason(text: &str) -> &str {
+    match text.rsplit_once(" (os error ") {
+        Some((words, _)) => words,
+        None => text,
+    }
+}
+
+// Says what failed, as the caller names it, and why.
+pub fn fail(rt: &HostRuntime, what: &[u8], why: Error) {
+    let text = InlineText::<256>::of(why);
+    say(rt, what);
+    say(rt, b": ");
+    say(rt, reason(text.as_str()).as_bytes());
+    say(rt, b"\n");
 }
 
 // Whether the call that just failed is to be made again: a signal came between, or nothing was ready yet. Others run first then.
-fn again() -> bool {
-    let error = os::errno();
-    if error == libc::EAGAIN {
-        libc::sched_yield();
+fn again(error: Error) -> bool {
+    if error.kind() == ErrorKind::WouldBlock {
+        thread::yield_now();
         return true;
     }
-    error == libc::EINTR
+    error.kind() == ErrorKind::Interrupted
 }
 
-// Whether a call of `read` or `write` failed for good, given what it answered.
-fn has_failed(got: isize) -> bool {
-    got < 0 && !again()
+// Why a call of `read` or `write` failed for good, given its error.
+fn has_failed(error: Error) -> Option<Error> {
+    if again(error) { None } else { Some(error) }
 }
 
-// Whether nothing more is to be read, given what a read answered, how many bytes it brought, and for how many there was room: the input has ended, or the space
-// is full.
-fn is_whole(got: isize, n: usize, room: usize) -> bool {
-    got == 0 || n == room
+// Whether nothing more is to be read, given how many bytes a read brought, and for how many there was room: the input has ended, or the space is full.
+fn is_whole(n: usize, room: usize) -> bool {
+    n == 0 || n == room
 }
 
 // One read into the space behind its first `done` bytes.
-fn read_on(fd: i32, space: &mut [u8], done: usize) -> Moved
+fn read_on<R: Read>(reader: &mut R, space: &mut [u8], done: usize) -> Moved
     requires { done ≤ length space.old }
     ensures { result.len ≤ length space.new }
 {
     let rest = &mut space[done..];
-    let got = libc::read(fd, rest);
-    let failed = has_failed(got);
-    let n = io::count(got, rest);
-    Moved {
-        len: done + n,
-        whole: is_whole(got, n, rest.len()),
-        failed: failed,
+    let room = rest.len();
+    match reader.read(rest) {
+        Ok(n) => Moved {
+            len: done + n,
+            whole: is_whole(n, room),
+            failed: None,
+        },
+        Err(error) => Moved {
+            len: done,
+            whole: room == 0,
+            failed: has_failed(error),
+        },
     }
 }
 
 // Reads until the input ends, a read fails, or the space is full: no later byte changes what is said of a book. A proved loop has to end, and nothing says that
 // the input does: so the turns are counted, to a number that no run comes to.
-fn read_whole(fd: i32, space: &mut [u8]) -> Moved
-    ensures { IsPrefixLen result.len space.new }
+fn read_whole<R: Read>(reader: &mut R, space: &mut [u8]) -> Moved
+    ensures { result.len ≤ length space.new }
 {
     let mut len = 0;
     for turn in 0..u64::MAX {
-        let m = read_on(fd, space, len);
-        if m.whole || m.failed {
+        let m = read_on(reader, space, len);
+        if m.whole || m.failed.is_some() {
             return m;
         }
         len = m.len;
@@ -83,108 +114,185 @@ fn read_whole(fd: i32, space: &mut [u8]) -> Moved
     Moved {
         len: len,
         whole: false,
-        failed: true,
+        failed: Some(Error::from(ErrorKind::TimedOut)),
     }
 }
 
 // Says that something cannot be read, and why.
-fn cannot_read(what: &[u8], name: &[u8]) {
-    say(b"gristvalley: ");
-    say(what);
-    say(b" is '");
-    say(name);
-    os::fail(b"', which cannot be read");
+fn cannot_read(rt: &HostRuntime, what: &[u8], name: &[u8], why: Error) {
+    say(rt, b"gristvalley: ");
+    say(rt, what);
+    say(rt, b" is '");
+    say(rt, name);
+    fail(rt, b"', which cannot be read", why);
+}
+
+// Puts the bytes of argument i into the space, and answers how many they are; or why they are not there.
+pub fn argument(rt: &HostRuntime, i: usize, space: &mut [u8]) -> io::Result<usize>
+    ensures { IfOk result (λ n. n ≤ length space.new) }
+{
+    match rt.arg(i, space) {
+        Ok(n) => Ok(n),
+        Err(FillError::NotPresent) => Err(Error::from_raw_os_error(MISSING)),
+        Err(FillError::TooLong) => Err(Error::from_raw_os_error(TOO_LONG)),
+    }
+}
+
+// A file's name as text, which the library wants it to be.
+fn name_text(name: &[u8]) -> io::Result<&str> {
+    match str::from_utf8(name) {
+        Ok(text) => Ok(text),
+        Err(_) => Err(Error::from_raw_os_error(NO_TEXT)),
+    }
+}
+
+// Opens a file or a folder to be read.
+pub fn open_read(rt: &HostRuntime, name: &[u8]) -> io::Result<File> {
+    let text = name_text(name)?;
+    File::open(rt, text)
+}
+
+// Makes a new file, which nothing may have been called before, to be written.
+pub fn create(rt: &HostRuntime, name: &[u8]) -> io::Result<File> {
+    let text = name_text(name)?;
+    OpenOptions::new()
+        .write(true)
+        .create_new(true)
+        .open(rt, text)
+}
+
+// Reads the file that has the name.
+fn read_named(rt: &HostRuntime, name: &[u8], space: &mut [u8]) -> Moved
+    ensures { result.len ≤ length space.new }
+{
+    match open_read(rt, name) {
+        Ok(mut file) => read_whole(&mut file, space),
+        Err(why) => Moved {
+            len: 0,
+            whole: false,
+            failed: Some(why),
+        },
+    }
 }
 
 // Reads the file that argument i names, which the sentence about a failure calls `what`.
-pub fn read_file(i: usize, what: &[u8], space: &mut [u8]) -> Moved
-    ensures { IsPrefixLen result.len space.new }
+pub fn read_file(rt: &HostRuntime, i: usize, what: &[u8], space: &mut [u8]) -> Moved
+    ensures { result.len ≤ length space.new }
 {
-    let mut name = io::buffer();
-    let k = os::arg(i, &mut name);
-    let mut fd = -1;
-    if os::errno() == 0 {
-        fd = os::open_read(&name[..k]);
+    let mut name = [0u8; 4096];
+    match argument(rt, i, &mut name) {
+        Ok(k) => {
+            let m = read_named(rt, &name[..k], space);
+            if let Some(why) = m.failed {
+                cannot_read(rt, what, &name[..k], why);
+            }
+            m
+        }
+        Err(why) => {
+            cannot_read(rt, what, b"", why);
+            Moved {
+                len: 0,
+                whole: false,
+                failed: Some(why),
+            }
+        }
     }
-    if fd < 0 {
-        cannot_read(what, &name[..k]);
-        return Moved {
-            len: 0,
-            whole: false,
-            failed: true,
-        };
-    }
-    let m = read_whole(fd, space);
-    if m.failed {
-        cannot_read(what, &name[..k]);
-    }
-    libc::close(fd);
-    m
 }
 
 // Reads standard input.
-pub fn read_input(space: &mut [u8]) -> Moved
-    ensures { IsPrefixLen result.len space.new }
+pub fn read_input(rt: &HostRuntime, space: &mut [u8]) -> Moved
+    ensures { result.len ≤ length space.new }
 {
-    let m = read_whole(STDIN_FILENO, space);
-    if m.failed {
-        os::fail(b"gristvalley: standard input cannot be read");
+    let m = read_whole(&mut rt.stdin(), space);
+    if let Some(why) = m.failed {
+        fail(rt, b"gristvalley: standard input cannot be read", why);
     }
     m
 }
 
+// Why a write that took n bytes failed, where it did: one that takes nothing has.
+fn took_nothing(n: usize) -> Option<Error> {
+    if n == 0 {
+        Some(Error::from(ErrorKind::WriteZero))
+    } else {
+        None
+    }
+}
+
 // One write of the bytes from `done` on. A write that takes nothing has failed.
-fn write_on(fd: i32, bytes: &[u8], done: usize) -> Moved
+fn write_on<W: Write>(writer: &mut W, bytes: &[u8], done: usize) -> Moved
     requires { done ≤ length bytes.now }
     ensures { result.len ≤ length bytes.now }
 {
     let rest = &bytes[done..];
-    let got = libc::write(fd, rest);
-    let failed = got == 0 || has_failed(got);
-    let n = io::count(got, rest);
-    Moved {
-        len: done + n,
-        whole: n == rest.len(),
-        failed: failed,
+    match writer.write(rest) {
+        Ok(n) => Moved {
+            len: done + n,
+            whole: n == rest.len(),
+            failed: took_nothing(n),
+        },
+        Err(error) => Moved {
+            len: done,
+            whole: rest.len() == 0,
+            failed: has_failed(error),
+        },
     }
 }
 
-// Writes all of the bytes, and answers whether that was done.
-pub fn put(fd: i32, bytes: &[u8]) -> bool {
+// Writes all of the bytes, or answers why that was not done.
+pub fn put<W: Write>(writer: &mut W, bytes: &[u8]) -> io::Result<()> {
     let mut done = 0;
     for turn in 0..u64::MAX {
-        let m = write_on(fd, bytes, done);
-        if m.whole || m.failed {
-            return m.whole;
+        let m = write_on(writer, bytes, done);
+        if m.whole {
+            return Ok(());
+        }
+        if let Some(why) = m.failed {
+            return Err(why);
         }
         done = m.len;
     }
-    false
+    Err(Error::from(ErrorKind::TimedOut))
 }
 
-// Prints a text, and answers whether all of it was written.
-fn print(t: Text) -> bool {
+// Prints a text, all of it, or answers why that was not done.
+fn print(rt: &HostRuntime, t: Text) -> io::Result<()> {
     let bytes = t.bytes;
     let n = t.len as usize;
     if n > bytes.len() {
-        return false;
+        return Err(Error::from(ErrorKind::InvalidData));
     }
-    put(STDOUT_FILENO, &bytes[..n])
+    put(&mut rt.stdout(), &bytes[..n])
 }
 
-// Tells the launcher the status of the call.
-pub fn tell(status: u8) {
+// The descriptor that the status is told on, where it is open to be written. Opened to be read too, a pipe is not waited for, and to append, a file keeps what it
+// has.
+fn open_status(rt: &HostRuntime) -> io::Result<File> {
+    let link = fs::symlink_metadata(rt, STATUS)?;
+    if link.permissions().readonly() {
+        return Err(Error::from(ErrorKind::PermissionDenied));
+    }
+    OpenOptions::new().read(true).append(true).open(rt, STATUS)
+}
+
+// Tells the launcher the status of the call. Where nobody listens nothing is told.
+pub fn tell(rt: &HostRuntime, status: u8) {
     let word = [status];
-    io::write_all(STATUS, &word);
+    if let Ok(mut file) = open_status(rt) {
+        let _ = file.write_all(&word);
+    }
 }
 
 // Prints an answer, and tells the status once all of it is written.
-pub fn answer(t: Text) {
-    if !print(t) {
-        os::fail(b"gristvalley: the answer could not be printed");
-    } else if commands::is_refusal(t) {
-        tell(REFUSED);
-    } else {
-        tell(SERVED);
+pub fn answer(rt: &HostRuntime, t: Text) {
+    match print(rt, t) {
+        Err(why) => fail(rt, b"gristvalley: the answer could not be printed", why),
+        Ok(()) => {
+            if commands::is_refusal(t) {
+                tell(rt, REFUSED);
+            } else {
+                tell(rt, SERVED);
+            }
+        }
     }
 }

@@ -11,9 +11,11 @@
 // or `BAD number place` and `END` where the book is refused.
 #![tactic(auto)]
 
+ghost use Rattle.std.specs.Prelude.{◌≤◌, length};
+
 use book::Answer;
 use judgement::Asked;
-use libc::{STDIN_FILENO, STDOUT_FILENO};
+use std::io::Read;
 
 // A set of spans, as `ask_set` takes it.
 #[derive(Clone, Copy)]
@@ -230,27 +232,46 @@ fn with_all(s: &[u8], n: u8) -> Tallies {
     t
 }
 
+// Reads until the space is full, the input ends or a read fails, and answers how many bytes that brought.
+fn read_full<R: Read>(reader: &mut R, space: &mut [u8]) -> usize
+    ensures { result ≤ length space.new }
+{
+    let mut done = 0;
+    while done < space.len() {
+        let n = reader.read(&mut space[done..]).unwrap_or(0);
+        if n == 0 {
+            break;
+        }
+        done += n;
+    }
+    done
+}
+
+// Writes bytes to standard output.
+fn write(rt: &HostRuntime, words: &[u8]) {
+    let _ = rt.write_all(words);
+}
+
 // Writes a word and a number after it.
-fn print(word: &[u8], n: u64) {
-    io::write_all(STDOUT_FILENO, word);
-    io::write_all(STDOUT_FILENO, b" ");
-    io::print_decimal(STDOUT_FILENO, n);
+fn print(rt: &HostRuntime, word: &[u8], n: u64) {
+    write(rt, word);
+    let _ = print!(rt; " {n}");
 }
 
 // Writes the rest of a line: a tally.
-fn print_tally(t: Tally) {
-    print(b"", t.sets);
-    print(b" JOINED", t.joined);
-    print(b" PARTED", t.parted);
-    print(b" PARTS", t.parts);
-    print(b" SPOILED", t.spoiled);
-    io::write_all(STDOUT_FILENO, b"\n");
+fn print_tally(rt: &HostRuntime, t: Tally) {
+    print(rt, b"", t.sets);
+    print(rt, b" JOINED", t.joined);
+    print(rt, b" PARTED", t.parted);
+    print(rt, b" PARTS", t.parts);
+    print(rt, b" SPOILED", t.spoiled);
+    write(rt, b"\n");
 }
 
 // Reads the book and prints what is counted.
-fn main() {
-    let mut space = io::buffer();
-    let n = io::read_full(STDIN_FILENO, &mut space);
+fn main(rt: HostRuntime) {
+    let mut space = [0u8; 4096];
+    let n = read_full(&mut rt.stdin(), &mut space);
     let s = &space[..n];
     let reply = book::read(s);
     let answer = reply.answer;
@@ -258,17 +279,17 @@ fn main() {
     match answer {
         Answer::Good => {
             let t = with_all(s, spans);
-            print(b"SPANS", spans as u64);
-            io::write_all(STDOUT_FILENO, b"\nSETS");
-            print_tally(t.sets);
-            io::write_all(STDOUT_FILENO, b"LOSSES");
-            print_tally(t.losses);
+            print(&rt, b"SPANS", spans as u64);
+            write(&rt, b"\nSETS");
+            print_tally(&rt, t.sets);
+            write(&rt, b"LOSSES");
+            print_tally(&rt, t.losses);
         }
         Answer::Refused(no, place) => {
-            print(b"BAD", no as u64);
-            print(b"", place as u64);
-            io::write_all(STDOUT_FILENO, b"\n");
+            print(&rt, b"BAD", no as u64);
+            print(&rt, b"", place as u64);
+            write(&rt, b"\n");
         }
     }
-    io::write_all(STDOUT_FILENO, b"END\n");
+    write(&rt, b"END\n");
 }
