@@ -1,4 +1,3 @@
-#!/usr/bin/env python3
 """Respells the names of this repository's own definitions, lemmas and fields as today's Rattle has them: words in snake case.
 
 usage: python3 tools/respell.py        once, at the top, right after the kit's port.py; it rewrites files in place and lists each name that it changed
