@@ -1,4 +1,4 @@
-/* The operations of Gristvalley for C. docs/FACE.md says what each number is; link target/staticlib/libface.a.
+/* The operations of Gristvalley for C. docs/FACE.md says what each number is; link out/libface.a.
  *
  * A slice is a pointer, which is never null, and a length. Each function is given the bytes of a book and stores nine numbers in `out`:
  *

@@ -5,18 +5,13 @@
  * counts a few dozen bytes of the caller, and what the functions of the C library take that the operation calls.
  *
  * What it does not see: words that were reserved and never written, of which there may be a page (the library writes to each page of what it reserves); a word
- * that was written over with the value of the paint; and what a call would need that is not made here.
- *
- * The kit's compiler has no headers, so the functions of the C library are declared here, and headers/ has what face.h needs. */
+ * that was written over with the value of the paint; and what a call would need that is not made here. */
 #include "face.h"
 
-int open(const char *name, int how, ...);
-long read(int descriptor, void *to, size_t length);
-int close(int descriptor);
-int printf(const char *form, ...);
-int dprintf(int descriptor, const char *form, ...);
-unsigned long strtoul(const char *digits, char **end, int base);
-_Noreturn void exit(int status);
+#include <fcntl.h>
+#include <stdio.h>
+#include <stdlib.h>
+#include <unistd.h>
 
 enum { READ, JUDGE, CONTRACT, CLOSE, ASK, ASK_SET, SEARCH, WRITE, OPERATIONS };
 
@@ -108,7 +103,7 @@ static void measure(size_t book_len, uint64_t *most)
 /* Loads a book, and tells its length. A file that is no book would bring refusals alone, and with them no full measure. */
 static size_t load(const char *name)
 {
-    int file = open(name, 0);
+    int file = open(name, O_RDONLY);
     if (file < 0) refuse("there is no book ", name);
     size_t length = 0;
     long got;

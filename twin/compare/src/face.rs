@@ -1,8 +1,5 @@
 //! The proved library as safe functions on slices. Each stores the nine numbers of its answer in `out`, if there is room, and says so.
 
-#[cfg(not(target_arch = "x86_64"))]
-use crate::carried::call;
-#[cfg(target_arch = "x86_64")]
 use crate::linked::call;
 
 /// The operations, in the order of face.h.

@@ -2,11 +2,7 @@
 
 /// Full-size books, of which no choice is acceptable.
 pub mod books;
-/// The calls, where the library is code for another processor.
-#[cfg(not(target_arch = "x86_64"))]
-mod carried;
 /// The operations, as safe functions.
 pub mod face;
-/// The calls, where the library is code for this processor.
-#[cfg(target_arch = "x86_64")]
+/// The calls.
 mod linked;
