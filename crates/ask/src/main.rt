@@ -116,7 +116,7 @@ fn keep_first(rt: &HostRuntime, buffer: &[u8], len: usize) -> io::Result<()> {
 // Keeps the first bytes of a buffer in a new file.
 fn keep(rt: &HostRuntime, buffer: &[u8], len: usize) {
     match keep_first(rt, buffer, len) {
-        Ok(()) => console::tell(rt, console::SERVED),
+        Ok(()) => console::tell(console::SERVED),
         Err(why) => console::fail(
             rt,
             b"gristvalley: the chosen book could not be written",

@@ -3,6 +3,7 @@
 #![tactic(auto)]
 
 ghost use Rattle.std.specs.Prelude.{◌≤◌, length, IfOk};
+ghost use Rattle.io.specs.Counts.{IsPrefixLen};
 
 use listing::commands;
 use listing::text::Text;
@@ -11,10 +12,10 @@ use std::fmt::InlineText;
 use std::fs::{File, OpenOptions};
 use std::io::{Error, ErrorKind, Read, Write};
 use std::rt::Env;
-use std::{fs, io, str, thread};
+use std::{str, thread};
 
-// The descriptor that the status is told on, as a file.
-const STATUS: &str = "/dev/fd/3";
+// The descriptor that the status is told on.
+const STATUS: i32 = 3;
 
 // The statuses: the answer is given, and the book or a number is refused. Where there is no answer none is told.
 pub const SERVED: u8 = b'0';
@@ -101,7 +102,7 @@ fn read_on<R: Read>(reader: &mut R, space: &mut [u8], done: usize) -> Moved
 // Reads until the input ends, a read fails, or the space is full: no later byte changes what is said of a book. A proved loop has to end, and nothing says that
 // the input does: so the turns are counted, to a number that no run comes to.
 fn read_whole<R: Read>(reader: &mut R, space: &mut [u8]) -> Moved
-    ensures { result.len ≤ length space.new }
+    ensures { IsPrefixLen result.len space.new }
 {
     let mut len = 0;
     for turn in 0..u64::MAX {
@@ -128,7 +129,7 @@ fn cannot_read(rt: &HostRuntime, what: &[u8], name: &[u8], why: Error) {
 }
 
 // Puts the bytes of argument i into the space, and answers how many they are; or why they are not there.
-pub fn argument(rt: &HostRuntime, i: usize, space: &mut [u8]) -> io::Result<usize>
+pub fn argument(rt: &HostRuntime, i: usize, space: &mut [u8]) -> Result<usize, Error>
     ensures { IfOk result (λ n. n ≤ length space.new) }
 {
     match rt.arg(i, space) {
@@ -139,7 +140,7 @@ pub fn argument(rt: &HostRuntime, i: usize, space: &mut [u8]) -> io::Result<usiz
 }
 
 // A file's name as text, which the library wants it to be.
-fn name_text(name: &[u8]) -> io::Result<&str> {
+fn name_text(name: &[u8]) -> Result<&str, Error> {
     match str::from_utf8(name) {
         Ok(text) => Ok(text),
         Err(_) => Err(Error::from_raw_os_error(NO_TEXT)),
@@ -147,13 +148,13 @@ fn name_text(name: &[u8]) -> io::Result<&str> {
 }
 
 // Opens a file or a folder to be read.
-pub fn open_read(rt: &HostRuntime, name: &[u8]) -> io::Result<File> {
+pub fn open_read(rt: &HostRuntime, name: &[u8]) -> Result<File, Error> {
     let text = name_text(name)?;
     File::open(rt, text)
 }
 
 // Makes a new file, which nothing may have been called before, to be written.
-pub fn create(rt: &HostRuntime, name: &[u8]) -> io::Result<File> {
+pub fn create(rt: &HostRuntime, name: &[u8]) -> Result<File, Error> {
     let text = name_text(name)?;
     OpenOptions::new()
         .write(true)
@@ -177,7 +178,7 @@ fn read_named(rt: &HostRuntime, name: &[u8], space: &mut [u8]) -> Moved
 
 // Reads the file that argument i names, which the sentence about a failure calls `what`.
 pub fn read_file(rt: &HostRuntime, i: usize, what: &[u8], space: &mut [u8]) -> Moved
-    ensures { result.len ≤ length space.new }
+    ensures { IsPrefixLen result.len space.new }
 {
     let mut name = [0u8; 4096];
     match argument(rt, i, &mut name) {
@@ -201,7 +202,7 @@ pub fn read_file(rt: &HostRuntime, i: usize, what: &[u8], space: &mut [u8]) -> M
 
 // Reads standard input.
 pub fn read_input(rt: &HostRuntime, space: &mut [u8]) -> Moved
-    ensures { result.len ≤ length space.new }
+    ensures { IsPrefixLen result.len space.new }
 {
     let m = read_whole(&mut rt.stdin(), space);
     if let Some(why) = m.failed {
@@ -240,7 +241,7 @@ fn write_on<W: Write>(writer: &mut W, bytes: &[u8], done: usize) -> Moved
 }
 
 // Writes all of the bytes, or answers why that was not done.
-pub fn put<W: Write>(writer: &mut W, bytes: &[u8]) -> io::Result<()> {
+pub fn put<W: Write>(writer: &mut W, bytes: &[u8]) -> Result<(), Error> {
     let mut done = 0;
     for turn in 0..u64::MAX {
         let m = write_on(writer, bytes, done);
@@ -256,7 +257,7 @@ pub fn put<W: Write>(writer: &mut W, bytes: &[u8]) -> io::Result<()> {
 }
 
 // Prints a text, all of it, or answers why that was not done.
-fn print(rt: &HostRuntime, t: Text) -> io::Result<()> {
+fn print(rt: &HostRuntime, t: Text) -> Result<(), Error> {
     let bytes = t.bytes;
     let n = t.len as usize;
     if n > bytes.len() {
@@ -265,22 +266,10 @@ fn print(rt: &HostRuntime, t: Text) -> io::Result<()> {
     put(&mut rt.stdout(), &bytes[..n])
 }
 
-// The descriptor that the status is told on, where it is open to be written. Opened to be read too, a pipe is not waited for, and to append, a file keeps what it
-// has.
-fn open_status(rt: &HostRuntime) -> io::Result<File> {
-    let link = fs::symlink_metadata(rt, STATUS)?;
-    if link.permissions().readonly() {
-        return Err(Error::from(ErrorKind::PermissionDenied));
-    }
-    OpenOptions::new().read(true).append(true).open(rt, STATUS)
-}
-
-// Tells the launcher the status of the call. Where nobody listens nothing is told.
-pub fn tell(rt: &HostRuntime, status: u8) {
+// Tells the launcher the status of the call.
+pub fn tell(status: u8) {
     let word = [status];
-    if let Ok(mut file) = open_status(rt) {
-        let _ = file.write_all(&word);
-    }
+    io::write_all(STATUS, &word);
 }
 
 // Prints an answer, and tells the status once all of it is written.
@@ -289,9 +278,9 @@ pub fn answer(rt: &HostRuntime, t: Text) {
         Err(why) => fail(rt, b"gristvalley: the answer could not be printed", why),
         Ok(()) => {
             if commands::is_refusal(t) {
-                tell(rt, REFUSED);
+                tell(REFUSED);
             } else {
-                tell(rt, SERVED);
+                tell(SERVED);
             }
         }
     }

@@ -13,9 +13,10 @@
 //
 // Byte i of a buffer is (7 * i + 3) % 256 before each writing, and BUF is the whole buffer afterwards: `-` where it has no bytes, hex where it has at
 // most 120, else `*` and its Adler-32 checksum.
-ghost use Rattle.std.specs.Prelude.{◌<◌, ◌≤◌, length};
+ghost use Rattle.std.specs.Prelude.{◌<◌};
+ghost use Rattle.io.specs.Counts.{IsPrefixLen};
 
-use crate::say::{number, print_refusal, word};
+use crate::say::{STDOUT_FILENO, number, print_refusal, word};
 use book::Answer;
 use book::choice::{Choice, Movables};
 use book::write::Written;
@@ -40,7 +41,7 @@ fn letter(d: u8) -> u8 {
 
 // Puts the hex digits of `b` into `text`, for as many bytes as it has room, and answers how many digits they are.
 fn put_hex(b: &[u8], text: &mut [u8]) -> usize
-    ensures { result ≤ length text.new }
+    ensures { IsPrefixLen result text.new }
 {
     let mut i = 0;
     let mut at = 0;
@@ -54,10 +55,10 @@ fn put_hex(b: &[u8], text: &mut [u8]) -> usize
 }
 
 // Writes at most 120 bytes as hex.
-fn print_hex(rt: &HostRuntime, b: &[u8]) {
+fn print_hex(b: &[u8]) {
     let mut text = [0u8; 240];
     let n = put_hex(b, &mut text);
-    word(rt, &text[..n]);
+    word(&text[..n]);
 }
 
 // A byte as a wider number.
@@ -81,18 +82,17 @@ fn checksum(b: &[u8]) -> u64 {
 }
 
 // Writes a blank and a buffer, and ends the line.
-fn print_buffer(rt: &HostRuntime, b: &[u8]) {
-    word(rt, b" ");
+fn print_buffer(b: &[u8]) {
+    word(b" ");
     if b.len() == 0 {
-        word(rt, b"-");
+        word(b"-");
     } else if b.len() <= SHORT {
-        print_hex(rt, b);
+        print_hex(b);
     } else {
-        word(rt, b"*");
-        let sum = checksum(b);
-        let _ = print!(rt; "{sum}");
+        word(b"*");
+        io::print_decimal(STDOUT_FILENO, checksum(b));
     }
-    word(rt, b"\n");
+    word(b"\n");
 }
 
 // Sets each byte of a buffer to what it is before a call.
@@ -113,44 +113,44 @@ fn write_into(s: &[u8], n: u32, out: &mut [u8]) -> Written {
 }
 
 // Writes choice `n` into a buffer, and ends the line with the answer and the buffer.
-fn print_write(rt: &HostRuntime, s: &[u8], n: u32, out: &mut [u8]) {
+fn print_write(s: &[u8], n: u32, out: &mut [u8]) {
     let answer = write_into(s, n, out);
     match answer {
         Written::Length(len) => {
-            word(rt, b"LENGTH");
-            number(rt, len as u64);
+            word(b"LENGTH");
+            number(len as u64);
         }
-        Written::Refused(no, place) => print_refusal(rt, no, place),
+        Written::Refused(no, place) => print_refusal(no, place),
     }
-    print_buffer(rt, out);
+    print_buffer(out);
 }
 
 // Writes choice `n` into a buffer of 16 bytes, and ends the line with what came of it.
-fn print_small(rt: &HostRuntime, s: &[u8], n: u32) {
+fn print_small(s: &[u8], n: u32) {
     let mut space = [0u8; 16];
-    print_write(rt, s, n, &mut space);
+    print_write(s, n, &mut space);
 }
 
 // Prints the line for writing choice `n` into the first `room` bytes of a buffer, or nothing where it has fewer.
-fn print_room(rt: &HostRuntime, s: &[u8], n: u32, room: usize) {
+fn print_room(s: &[u8], n: u32, room: usize) {
     if room <= ROOM {
         let mut space = [0u8; ROOM];
-        word(rt, b"ROOM");
-        number(rt, room as u64);
-        word(rt, b" ");
-        print_write(rt, s, n, &mut space[0..room]);
+        word(b"ROOM");
+        number(room as u64);
+        word(b" ");
+        print_write(s, n, &mut space[0..room]);
     }
 }
 
 // Prints the lines for writing choice `n`, whose length is `len`, into buffers of four lengths.
-fn print_rooms(rt: &HostRuntime, s: &[u8], n: u32, len: usize) {
-    print_room(rt, s, n, len);
+fn print_rooms(s: &[u8], n: u32, len: usize) {
+    print_room(s, n, len);
     if len > 0 {
-        print_room(rt, s, n, len - 1);
+        print_room(s, n, len - 1);
     }
-    print_room(rt, s, n, 0);
+    print_room(s, n, 0);
     if len <= ROOM - 9 {
-        print_room(rt, s, n, len + 9);
+        print_room(s, n, len + 9);
     }
 }
 
@@ -171,7 +171,7 @@ fn begins(space: &[u8], s: &[u8]) -> u64 {
 
 // 1 where choice 0 of a book is written as the book's own bytes, else 0.
 fn kept(s: &[u8]) -> u64 {
-    let mut space = [0u8; 4096];
+    let mut space = io::buffer();
     let answer = write_into(s, 0, &mut space);
     let Written::Length(len) = answer else {
         return 0;
@@ -180,125 +180,125 @@ fn kept(s: &[u8]) -> u64 {
 }
 
 // Prints the line for what a written book reads as.
-fn print_back(rt: &HostRuntime, s: &[u8]) {
-    word(rt, b"BACK");
+fn print_back(s: &[u8]) {
+    word(b"BACK");
     let reply = book::read(s);
     let answer = reply.answer;
     let b = reply.book;
     match answer {
         Answer::Good => {
-            number(rt, b.nodes as u64);
-            number(rt, b.spans as u64);
-            number(rt, b.lightpaths as u64);
-            number(rt, b.alternatives as u64);
-            number(rt, Movables::of(b).total() as u64);
-            number(rt, kept(s));
+            number(b.nodes as u64);
+            number(b.spans as u64);
+            number(b.lightpaths as u64);
+            number(b.alternatives as u64);
+            number(Movables::of(b).total() as u64);
+            number(kept(s));
         }
         Answer::Refused(no, place) => {
-            word(rt, b" ");
-            print_refusal(rt, no, place);
+            word(b" ");
+            print_refusal(no, place);
         }
     }
-    word(rt, b"\n");
+    word(b"\n");
 }
 
 // Prints the lines for writing choice `n` of a book, whose first `len` bytes in `space` are what was written, and for reading it back.
-fn print_written(rt: &HostRuntime, s: &[u8], n: u32, space: &[u8], len: usize) {
+fn print_written(s: &[u8], n: u32, space: &[u8], len: usize) {
     if len <= space.len() {
-        print_rooms(rt, s, n, len);
-        print_back(rt, &space[0..len]);
+        print_rooms(s, n, len);
+        print_back(&space[0..len]);
     } else {
-        print_room(rt, s, n, space.len());
+        print_room(s, n, space.len());
     }
 }
 
 // Prints the lines for writing choice `n` of a book. A choice that 4,096 bytes do not hold has one line, for that room.
-fn print_writes(rt: &HostRuntime, s: &[u8], n: u32) {
-    let mut space = [0u8; 4096];
+fn print_writes(s: &[u8], n: u32) {
+    let mut space = io::buffer();
     let answer = write_into(s, n, &mut space);
     match answer {
-        Written::Length(len) => print_written(rt, s, n, &space, len),
-        Written::Refused(_, _) => print_room(rt, s, n, 4096),
+        Written::Length(len) => print_written(s, n, &space, len),
+        Written::Refused(_, _) => print_room(s, n, 4096),
     }
 }
 
 // Writes the digits of a choice.
-fn print_digits(rt: &HostRuntime, digits: [u8; 8]) {
+fn print_digits(digits: [u8; 8]) {
     for i in 0..8 {
-        number(rt, wide(digits[i]));
+        number(wide(digits[i]));
     }
 }
 
 // Prints the line for the digits of choice `n`.
-fn print_row(rt: &HostRuntime, w: Movables, n: u32) {
+fn print_row(w: Movables, n: u32) {
     let c = Choice::of(n, w);
     let digits = c.digits;
-    word(rt, b"CHOICE");
-    number(rt, n as u64);
-    print_digits(rt, digits);
-    number(rt, c.number(w) as u64);
+    word(b"CHOICE");
+    number(n as u64);
+    print_digits(digits);
+    number(c.number(w) as u64);
     let next = c.next(w);
-    number(rt, next.number(w) as u64);
-    number(rt, c.before(next, w) as u64);
-    word(rt, b"\n");
+    number(next.number(w) as u64);
+    number(c.before(next, w) as u64);
+    word(b"\n");
 }
 
 // Prints the lines for one number of a book with `t` choices.
-fn print_choice(rt: &HostRuntime, s: &[u8], w: Movables, t: u32, n: u32) {
+fn print_choice(s: &[u8], w: Movables, t: u32, n: u32) {
     if n < t {
-        print_row(rt, w, n);
-        print_writes(rt, s, n);
+        print_row(w, n);
+        print_writes(s, n);
     } else {
-        word(rt, b"CHOICE");
-        number(rt, n as u64);
-        word(rt, b" ");
-        print_small(rt, s, n);
+        word(b"CHOICE");
+        number(n as u64);
+        word(b" ");
+        print_small(s, n);
     }
 }
 
 // Prints the lines for every number below `t`.
-fn print_all(rt: &HostRuntime, s: &[u8], w: Movables, t: u32) {
+fn print_all(s: &[u8], w: Movables, t: u32) {
     for n in 0..t {
-        print_choice(rt, s, w, t, n);
+        print_choice(s, w, t, n);
     }
 }
 
 // Prints the lines for the numbers below `t` that are tried: all where they are few, else seven.
-fn print_below(rt: &HostRuntime, s: &[u8], w: Movables, t: u32) {
+fn print_below(s: &[u8], w: Movables, t: u32) {
     if t <= FEW {
-        print_all(rt, s, w, t);
+        print_all(s, w, t);
     } else {
-        print_choice(rt, s, w, t, 0);
-        print_choice(rt, s, w, t, 1);
-        print_choice(rt, s, w, t, 2);
-        print_choice(rt, s, w, t, t / 3);
-        print_choice(rt, s, w, t, t / 2);
-        print_choice(rt, s, w, t, t - 2);
-        print_choice(rt, s, w, t, t - 1);
+        print_choice(s, w, t, 0);
+        print_choice(s, w, t, 1);
+        print_choice(s, w, t, 2);
+        print_choice(s, w, t, t / 3);
+        print_choice(s, w, t, t / 2);
+        print_choice(s, w, t, t - 2);
+        print_choice(s, w, t, t - 1);
     }
 }
 
 // Prints the lines for a good book.
-fn print_choices(rt: &HostRuntime, s: &[u8], w: Movables) {
+fn print_choices(s: &[u8], w: Movables) {
     let t = w.total();
-    word(rt, b"CHOICES");
-    number(rt, t as u64);
-    word(rt, b"\n");
-    print_below(rt, s, w, t);
-    print_choice(rt, s, w, t, t);
-    print_choice(rt, s, w, t, 4294967295);
+    word(b"CHOICES");
+    number(t as u64);
+    word(b"\n");
+    print_below(s, w, t);
+    print_choice(s, w, t, t);
+    print_choice(s, w, t, 4294967295);
 }
 
 // Reads a book and prints its lines.
-pub(crate) fn print_book(rt: &HostRuntime, s: &[u8]) {
+pub(crate) fn print_book(s: &[u8]) {
     let reply = book::read(s);
     let answer = reply.answer;
     let b = reply.book;
     match answer {
-        Answer::Good => print_choices(rt, s, Movables::of(b)),
+        Answer::Good => print_choices(s, Movables::of(b)),
         Answer::Refused(_, _) => {
-            print_small(rt, s, 0);
-            print_room(rt, s, 4294967295, ROOM);
+            print_small(s, 0);
+            print_room(s, 4294967295, ROOM);
         }
     }
 }

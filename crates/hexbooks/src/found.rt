@@ -4,21 +4,21 @@ use crate::say::{number, print_refusal, word};
 use search::{Finding, Searched};
 
 // Prints what was found.
-fn print_finding(rt: &HostRuntime, f: Finding) {
+fn print_finding(f: Finding) {
     match f {
         Finding::Found(n, total) => {
-            word(rt, b"FOUND");
-            number(rt, n as u64);
-            number(rt, total as u64);
+            word(b"FOUND");
+            number(n as u64);
+            number(total as u64);
         }
         Finding::None(total) => {
-            word(rt, b"NONE");
-            number(rt, total as u64);
+            word(b"NONE");
+            number(total as u64);
         }
         Finding::More(limit, total) => {
-            word(rt, b"MORE");
-            number(rt, limit as u64);
-            number(rt, total as u64);
+            word(b"MORE");
+            number(limit as u64);
+            number(total as u64);
         }
     }
 }
@@ -29,16 +29,16 @@ fn wide(x: u8) -> u32 {
 }
 
 // Prints the line, or `?` where there is no limit.
-pub(crate) fn print_search(rt: &HostRuntime, s: &[u8]) {
+pub(crate) fn print_search(s: &[u8]) {
     if s.len() < 4 {
-        word(rt, b"?\n");
+        word(b"?\n");
         return;
     }
     let limit = wide(s[0]) << 24 | wide(s[1]) << 16 | wide(s[2]) << 8 | wide(s[3]);
     let answer = search::search(&s[4..], limit);
     match answer {
-        Searched::Told(f) => print_finding(rt, f),
-        Searched::Refused(no, place) => print_refusal(rt, no, place),
+        Searched::Told(f) => print_finding(f),
+        Searched::Refused(no, place) => print_refusal(no, place),
     }
-    word(rt, b"\n");
+    word(b"\n");
 }

@@ -20,175 +20,175 @@ const CHOICES: u32 = 12;
 const SPANS: u32 = 6;
 
 // Ends a line with a refusal.
-fn end_refused(rt: &HostRuntime, no: u8, place: usize) {
-    word(rt, b" ");
-    print_refusal(rt, no, place);
-    word(rt, b"\n");
+fn end_refused(no: u8, place: usize) {
+    word(b" ");
+    print_refusal(no, place);
+    word(b"\n");
 }
 
 // Prints a verdict.
-fn print_verdict(rt: &HostRuntime, v: Verdict) {
+fn print_verdict(v: Verdict) {
     match v {
         Verdict::Over(x, l, w) => {
-            word(rt, b" OVER");
-            number(rt, x as u64);
-            number(rt, l as u64);
-            number(rt, w as u64);
+            word(b" OVER");
+            number(x as u64);
+            number(l as u64);
+            number(w as u64);
         }
         Verdict::Split(d) => {
-            word(rt, b" SPLIT");
-            number(rt, d);
+            word(b" SPLIT");
+            number(d);
         }
         Verdict::Cut(x, d) => {
-            word(rt, b" CUT");
-            number(rt, x as u64);
-            number(rt, d);
+            word(b" CUT");
+            number(x as u64);
+            number(d);
         }
-        Verdict::Okay => word(rt, b" OK"),
+        Verdict::Okay => word(b" OK"),
     }
 }
 
 // Starts a line about choice `n`.
-fn start_line(rt: &HostRuntime, name: &[u8], n: u32) {
-    word(rt, name);
-    number(rt, n as u64);
+fn start_line(name: &[u8], n: u32) {
+    word(name);
+    number(n as u64);
 }
 
 // Prints the lines for the verdict on choice `n` and its score.
-fn print_judge(rt: &HostRuntime, s: &[u8], n: u32) {
+fn print_judge(s: &[u8], n: u32) {
     let j = judgement::judge(s, n);
-    start_line(rt, b"JUDGE", n);
+    start_line(b"JUDGE", n);
     match j {
         Judged::Told(v, f, fc) => {
-            print_verdict(rt, v);
-            word(rt, b"\n");
-            start_line(rt, b"SCORE", n);
-            number(rt, f as u64);
-            number(rt, fc as u64);
-            word(rt, b"\n");
+            print_verdict(v);
+            word(b"\n");
+            start_line(b"SCORE", n);
+            number(f as u64);
+            number(fc as u64);
+            word(b"\n");
         }
         Judged::Refused(no, place) => {
-            end_refused(rt, no, place);
-            start_line(rt, b"SCORE", n);
-            end_refused(rt, no, place);
+            end_refused(no, place);
+            start_line(b"SCORE", n);
+            end_refused(no, place);
         }
     }
 }
 
 // Ends a line with what closing a node does.
-fn end_site(rt: &HostRuntime, a: Site) {
+fn end_site(a: Site) {
     match a {
         Site::Down(v, d) => {
-            word(rt, b" DOWN");
-            number(rt, v as u64);
-            number(rt, d);
+            word(b" DOWN");
+            number(v as u64);
+            number(d);
         }
-        Site::Okay => word(rt, b" OK"),
+        Site::Okay => word(b" OK"),
     }
-    word(rt, b"\n");
+    word(b"\n");
 }
 
 // Prints the line for closing the nodes in choice `n`.
-fn print_site(rt: &HostRuntime, s: &[u8], n: u32) {
+fn print_site(s: &[u8], n: u32) {
     let j = judgement::close(s, n);
-    start_line(rt, b"SITE", n);
+    start_line(b"SITE", n);
     match j {
-        Closed::Told(a) => end_site(rt, a),
-        Closed::Refused(no, place) => end_refused(rt, no, place),
+        Closed::Told(a) => end_site(a),
+        Closed::Refused(no, place) => end_refused(no, place),
     }
 }
 
 // Prints the line for the verdict on choice `n` by contraction.
-fn print_contract(rt: &HostRuntime, s: &[u8], n: u32) {
+fn print_contract(s: &[u8], n: u32) {
     let j = judgement::contract(s, n);
-    start_line(rt, b"CONTRACT", n);
+    start_line(b"CONTRACT", n);
     match j {
         Contracted::Told(v, merges) => {
-            print_verdict(rt, v);
-            number(rt, merges as u64);
-            word(rt, b"\n");
+            print_verdict(v);
+            number(merges as u64);
+            word(b"\n");
         }
-        Contracted::Refused(no, place) => end_refused(rt, no, place),
+        Contracted::Refused(no, place) => end_refused(no, place),
     }
 }
 
 // Prints the line for the question about span `x` in choice `n`.
-fn print_ask(rt: &HostRuntime, s: &[u8], n: u32, x: u32) {
-    start_line(rt, b"ASK", n);
-    number(rt, x as u64);
+fn print_ask(s: &[u8], n: u32, x: u32) {
+    start_line(b"ASK", n);
+    number(x as u64);
     let j = judgement::ask(s, n, x);
     match j {
         Asked::Told(d, whole) => {
-            number(rt, d);
-            number(rt, whole as u64);
-            word(rt, b"\n");
+            number(d);
+            number(whole as u64);
+            word(b"\n");
         }
-        Asked::Refused(no, place) => end_refused(rt, no, place),
+        Asked::Refused(no, place) => end_refused(no, place),
     }
 }
 
 // Prints the lines for the questions about the spans of a book that has so many.
-fn print_asks(rt: &HostRuntime, s: &[u8], n: u32, spans: u32) {
+fn print_asks(s: &[u8], n: u32, spans: u32) {
     if spans <= SPANS {
         for x in 0..spans {
-            print_ask(rt, s, n, x);
+            print_ask(s, n, x);
         }
     } else {
-        print_ask(rt, s, n, 0);
-        print_ask(rt, s, n, 1);
-        print_ask(rt, s, n, spans / 2);
-        print_ask(rt, s, n, spans - 1);
+        print_ask(s, n, 0);
+        print_ask(s, n, 1);
+        print_ask(s, n, spans / 2);
+        print_ask(s, n, spans - 1);
     }
-    print_ask(rt, s, n, spans);
+    print_ask(s, n, spans);
 }
 
 // Prints the lines for choice `n`.
-fn print_choice(rt: &HostRuntime, s: &[u8], n: u32, spans: u32) {
-    print_judge(rt, s, n);
-    print_site(rt, s, n);
-    print_contract(rt, s, n);
-    print_asks(rt, s, n, spans);
+fn print_choice(s: &[u8], n: u32, spans: u32) {
+    print_judge(s, n);
+    print_site(s, n);
+    print_contract(s, n);
+    print_asks(s, n, spans);
 }
 
 // Prints the lines for the choices that are tried, of `t`.
-fn print_choices(rt: &HostRuntime, s: &[u8], t: u32, spans: u32) {
+fn print_choices(s: &[u8], t: u32, spans: u32) {
     if t <= CHOICES {
         for n in 0..t {
-            print_choice(rt, s, n, spans);
+            print_choice(s, n, spans);
         }
     } else {
-        print_choice(rt, s, 0, spans);
-        print_choice(rt, s, 1, spans);
-        print_choice(rt, s, 2, spans);
-        print_choice(rt, s, t / 3, spans);
-        print_choice(rt, s, t / 2, spans);
-        print_choice(rt, s, t - 2, spans);
-        print_choice(rt, s, t - 1, spans);
+        print_choice(s, 0, spans);
+        print_choice(s, 1, spans);
+        print_choice(s, 2, spans);
+        print_choice(s, t / 3, spans);
+        print_choice(s, t / 2, spans);
+        print_choice(s, t - 2, spans);
+        print_choice(s, t - 1, spans);
     }
 }
 
 // Prints the five lines that are refused for number `n`.
-fn print_refused(rt: &HostRuntime, s: &[u8], n: u32, x: u32) {
-    print_judge(rt, s, n);
-    print_site(rt, s, n);
-    print_contract(rt, s, n);
-    print_ask(rt, s, n, x);
+fn print_refused(s: &[u8], n: u32, x: u32) {
+    print_judge(s, n);
+    print_site(s, n);
+    print_contract(s, n);
+    print_ask(s, n, x);
 }
 
 // Prints the lines of a book.
-pub(crate) fn print_book(rt: &HostRuntime, s: &[u8]) {
+pub(crate) fn print_book(s: &[u8]) {
     let reply = book::read(s);
     let answer = reply.answer;
     let b = reply.book;
     match answer {
         Answer::Good => {
             let t = Movables::of(b).total();
-            print_choices(rt, s, t, b.spans as u32);
-            print_refused(rt, s, t, 4294967295);
+            print_choices(s, t, b.spans as u32);
+            print_refused(s, t, 4294967295);
         }
         Answer::Refused(_, _) => {
-            print_refused(rt, s, 0, 0);
-            print_refused(rt, s, 4294967295, 4294967295);
+            print_refused(s, 0, 0);
+            print_refused(s, 4294967295, 4294967295);
         }
     }
 }

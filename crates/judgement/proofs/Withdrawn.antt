@@ -56,7 +56,7 @@ none_less : {part booked : ℕ → Bool} → PartOf part booked → (xs : List �
 unfolding none_of
 none_less f [] e = refl
 none_less {part} {booked} f (x ∷ xs) e =
-    let b = and_inv {a = not (booked x)} e in
+    let b = and_inv {b = none_of booked xs} e in
     and_both (not_less (part x) (booked x) (f x) b.0) (none_less f xs b.1)
 
 pub also_less : {part booked : ℕ → Bool} (loss : ℕ → Bool) → PartOf part booked → PartOf (also part loss) (also booked loss)

@@ -1,7 +1,7 @@
 // The report program: reads the book that its argument names, or else standard input, keeps 4,096 bytes of it, and prints the report on it.
 #![tactic(auto)]
 
-ghost use Rattle.std.specs.Prelude.{◌≤◌, length};
+ghost use Rattle.io.specs.Counts.{IsPrefixLen};
 
 use console::Moved;
 use std::env::FillError;
@@ -19,7 +19,7 @@ fn is_named(rt: &HostRuntime) -> bool {
 
 // Reads the book.
 fn take(rt: &HostRuntime, space: &mut [u8]) -> Moved
-    ensures { result.len ≤ length space.new }
+    ensures { IsPrefixLen result.len space.new }
 {
     if is_named(rt) {
         console::read_file(rt, 1, b"BOOK", space)

@@ -11,11 +11,13 @@
 // or `BAD number place` and `END` where the book is refused.
 #![tactic(auto)]
 
-ghost use Rattle.std.specs.Prelude.{◌≤◌, length};
-
 use book::Answer;
 use judgement::Asked;
-use std::io::Read;
+
+// The descriptors of standard input and output.
+const STDIN_FILENO: i32 = 0;
+
+const STDOUT_FILENO: i32 = 1;
 
 // A set of spans, as `ask_set` takes it.
 #[derive(Clone, Copy)]
@@ -232,46 +234,27 @@ fn with_all(s: &[u8], n: u8) -> Tallies {
     t
 }
 
-// Reads until the space is full, the input ends or a read fails, and answers how many bytes that brought.
-fn read_full<R: Read>(reader: &mut R, space: &mut [u8]) -> usize
-    ensures { result ≤ length space.new }
-{
-    let mut done = 0;
-    while done < space.len() {
-        let n = reader.read(&mut space[done..]).unwrap_or(0);
-        if n == 0 {
-            break;
-        }
-        done += n;
-    }
-    done
-}
-
-// Writes bytes to standard output.
-fn write(rt: &HostRuntime, words: &[u8]) {
-    let _ = rt.write_all(words);
-}
-
 // Writes a word and a number after it.
-fn print(rt: &HostRuntime, word: &[u8], n: u64) {
-    write(rt, word);
-    let _ = print!(rt; " {n}");
+fn print(word: &[u8], n: u64) {
+    io::write_all(STDOUT_FILENO, word);
+    io::write_all(STDOUT_FILENO, b" ");
+    io::print_decimal(STDOUT_FILENO, n);
 }
 
 // Writes the rest of a line: a tally.
-fn print_tally(rt: &HostRuntime, t: Tally) {
-    print(rt, b"", t.sets);
-    print(rt, b" JOINED", t.joined);
-    print(rt, b" PARTED", t.parted);
-    print(rt, b" PARTS", t.parts);
-    print(rt, b" SPOILED", t.spoiled);
-    write(rt, b"\n");
+fn print_tally(t: Tally) {
+    print(b"", t.sets);
+    print(b" JOINED", t.joined);
+    print(b" PARTED", t.parted);
+    print(b" PARTS", t.parts);
+    print(b" SPOILED", t.spoiled);
+    io::write_all(STDOUT_FILENO, b"\n");
 }
 
 // Reads the book and prints what is counted.
-fn main(rt: HostRuntime) {
-    let mut space = [0u8; 4096];
-    let n = read_full(&mut rt.stdin(), &mut space);
+fn main() {
+    let mut space = io::buffer();
+    let n = io::read_full(STDIN_FILENO, &mut space);
     let s = &space[..n];
     let reply = book::read(s);
     let answer = reply.answer;
@@ -279,17 +262,17 @@ fn main(rt: HostRuntime) {
     match answer {
         Answer::Good => {
             let t = with_all(s, spans);
-            print(&rt, b"SPANS", spans as u64);
-            write(&rt, b"\nSETS");
-            print_tally(&rt, t.sets);
-            write(&rt, b"LOSSES");
-            print_tally(&rt, t.losses);
+            print(b"SPANS", spans as u64);
+            io::write_all(STDOUT_FILENO, b"\nSETS");
+            print_tally(t.sets);
+            io::write_all(STDOUT_FILENO, b"LOSSES");
+            print_tally(t.losses);
         }
         Answer::Refused(no, place) => {
-            print(&rt, b"BAD", no as u64);
-            print(&rt, b"", place as u64);
-            write(&rt, b"\n");
+            print(b"BAD", no as u64);
+            print(b"", place as u64);
+            io::write_all(STDOUT_FILENO, b"\n");
         }
     }
-    write(&rt, b"END\n");
+    io::write_all(STDOUT_FILENO, b"END\n");
 }
