@@ -2,7 +2,8 @@
 // output, and the status of the call is told to the launcher on descriptor 3, while the program itself ends with 0.
 #![tactic(auto)]
 
-ghost use Rattle.std.specs.Prelude.{◌≤◌, length, IfOk};
+ghost use Rattle.std.specs.Prelude.{◌≡◌, ◌-◌, ◌≤◌, length, take, drop, IfOk, IsTrue, IsUtf8, MatchResult, OnOk};
+ghost use Rattle.std.specs.Io.KnownBytes.{Appends};
 ghost use Rattle.io.specs.Counts.{IsPrefixLen};
 
 use listing::commands;
@@ -140,7 +141,9 @@ pub fn argument(rt: &HostRuntime, i: usize, space: &mut [u8]) -> Result<usize, E
 }
 
 // A file's name as text, which the library wants it to be.
-fn name_text(name: &[u8]) -> Result<&str, Error> {
+fn name_text(name: &[u8]) -> Result<&str, Error>
+    ensures { MatchResult result (λ text. (text.now ≡ name.now) × IsUtf8 name.now) (λ why. ¬ (IsUtf8 name.now)) }
+{
     match str::from_utf8(name) {
         Ok(text) => Ok(text),
         Err(_) => Err(Error::from_raw_os_error(NO_TEXT)),
@@ -148,13 +151,17 @@ fn name_text(name: &[u8]) -> Result<&str, Error> {
 }
 
 // Opens a file or a folder to be read.
-pub fn open_read(rt: &HostRuntime, name: &[u8]) -> Result<File, Error> {
+pub fn open_read(rt: &HostRuntime, name: &[u8]) -> Result<File, Error>
+    ensures { IfOk result (λ file. IsUtf8 name.now) }
+{
     let text = name_text(name)?;
     File::open(rt, text)
 }
 
 // Makes a new file, which nothing may have been called before, to be written.
-pub fn create(rt: &HostRuntime, name: &[u8]) -> Result<File, Error> {
+pub fn create(rt: &HostRuntime, name: &[u8]) -> Result<File, Error>
+    ensures { IfOk result (λ file. IsUtf8 name.now) }
+{
     let text = name_text(name)?;
     OpenOptions::new()
         .write(true)
@@ -223,7 +230,10 @@ fn took_nothing(n: usize) -> Option<Error> {
 // One write of the bytes from `done` on. A write that takes nothing has failed.
 fn write_on<W: Write>(writer: &mut W, bytes: &[u8], done: usize) -> Moved
     requires { done ≤ length bytes.now }
-    ensures { result.len ≤ length bytes.now }
+    ensures within { result.len ≤ length bytes.now }
+    ensures onward { done ≤ result.len }
+    ensures whole { IsTrue result.whole → result.len ≡ length bytes.now }
+    ensures written { Appends (W.contents writer.old) (W.contents writer.new) (take (result.len - done) (drop done bytes.now)) }
 {
     let rest = &bytes[done..];
     match writer.write(rest) {
@@ -241,7 +251,9 @@ fn write_on<W: Write>(writer: &mut W, bytes: &[u8], done: usize) -> Moved
 }
 
 // Writes all of the bytes, or answers why that was not done.
-pub fn put<W: Write>(writer: &mut W, bytes: &[u8]) -> Result<(), Error> {
+pub fn put<W: Write>(writer: &mut W, bytes: &[u8]) -> Result<(), Error>
+    ensures { OnOk result (Appends (W.contents writer.old) (W.contents writer.new) bytes.now) }
+{
     let mut done = 0;
     for turn in 0..u64::MAX {
         let m = write_on(writer, bytes, done);
