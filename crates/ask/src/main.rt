@@ -2,15 +2,12 @@
 // number, a sentence on the error output says so and nothing is printed. `./gristvalley` starts it, and makes a status of what it tells.
 #![tactic(auto)]
 
-ghost use Rattle.std.specs.Prelude.{◌≤◌, length};
-
 use book::write;
-use book::write::Written;
-use listing::number::Parsed;
+use console::Status;
+use listing::number::NotNumber;
 use listing::{commands, number};
 use std::env::FillError;
-use std::io;
-use std::io::ErrorKind;
+use std::io::{Error, ErrorKind};
 use std::rt::Env;
 
 // Says what is wrong with an argument.
@@ -27,96 +24,58 @@ fn blame(rt: &HostRuntime, name: &[u8], word: &[u8], why: &[u8]) {
     console::say(rt, b"\n");
 }
 
-// Says why an argument is no number, where it is none.
-fn explain(rt: &HostRuntime, p: Parsed, name: &[u8], word: &[u8]) {
-    match p {
-        Parsed::Number(n) => {}
-        Parsed::Empty => blame(rt, name, word, b"it is empty"),
-        Parsed::NotDigits => blame(rt, name, word, b"it has a byte that is not a digit"),
-        Parsed::TooGreat => blame(rt, name, word, b"it is greater"),
-    }
-}
-
 // The number that argument i is; where it is none, the error output says why.
-fn number_at(rt: &HostRuntime, i: usize, name: &[u8]) -> Parsed {
+fn number_at(rt: &HostRuntime, i: usize, name: &[u8]) -> Option<u32> {
     let mut space = [0u8; 4096];
-    let n = match rt.arg(i, &mut space) {
-        Ok(n) => n,
-        Err(FillError::NotPresent) => 0,
+    let word: &[u8] = match rt.arg(i, &mut space) {
+        Ok(n) => &space[..n],
+        Err(FillError::NotPresent) => b"",
         Err(FillError::TooLong) => {
             blame(rt, name, b"..", b"it has more than 4,096 bytes");
-            return Parsed::TooGreat;
+            return None;
         }
     };
-    let p = number::parse(&space[..n]);
-    explain(rt, p, name, &space[..n]);
-    p
+    let why: &[u8] = match number::parse(word) {
+        Ok(n) => return Some(n),
+        Err(NotNumber::Empty) => b"it is empty",
+        Err(NotNumber::NotDigits) => b"it has a byte that is not a digit",
+        Err(NotNumber::TooGreat) => b"it is greater",
+    };
+    blame(rt, name, word, why);
+    None
 }
 
-// Whether two words are the same.
-fn same(a: &[u8], b: &[u8]) -> bool {
-    if a.len() != b.len() {
-        return false;
-    }
-    let mut i = 0;
-    while i < a.len() {
-        if a[i] != b[i] {
-            return false;
-        }
-        i += 1;
-    }
-    true
-}
-
-// The length of argument i, whose bytes are put into the space; 0 where it is missing or does not fit.
-fn word_at(rt: &HostRuntime, i: usize, space: &mut [u8]) -> usize
-    ensures { result ≤ length space.new }
-{
-    match rt.arg(i, space) {
-        Ok(n) => n,
-        Err(_) => 0,
-    }
+// The bytes of argument i, which are put into the space; none where it is missing or does not fit.
+fn word_at<'a>(rt: &HostRuntime, i: usize, space: &'a mut [u8]) -> &'a [u8] {
+    let n = rt.arg(i, space).unwrap_or(0);
+    &space[..n]
 }
 
 // Makes the file that argument i names, which nothing may have been called before, with the bytes in it, all of which reach the disk; or answers why not.
-fn make_file(rt: &HostRuntime, i: usize, bytes: &[u8]) -> io::Result<()> {
-    let mut name = [0u8; 4096];
-    let k = word_at(rt, i, &mut name);
-    let mut file = console::create(rt, &name[..k])?;
+fn make_file(rt: &HostRuntime, i: usize, bytes: &[u8]) -> Result<(), Error> {
+    let mut space = [0u8; 4096];
+    let name = word_at(rt, i, &mut space);
+    let mut file = console::create(rt, name)?;
     console::put(&mut file, bytes)?;
     file.sync_all()
 }
 
 // Has what was entered into the folder that argument i names reach its disk, or answers why it did not. Some file systems have nothing to do for that, and say
 // that it is not for a folder.
-fn sync_folder(rt: &HostRuntime, i: usize) -> io::Result<()> {
-    let mut name = [0u8; 4096];
-    let k = word_at(rt, i, &mut name);
-    let folder = console::open_read(rt, &name[..k])?;
+fn sync_folder(rt: &HostRuntime, i: usize) -> Result<(), Error> {
+    let mut space = [0u8; 4096];
+    let name = word_at(rt, i, &mut space);
+    let folder = console::open_read(rt, name)?;
     match folder.sync_all() {
-        Ok(()) => Ok(()),
-        Err(why) => {
-            if why.kind() == ErrorKind::InvalidInput {
-                Ok(())
-            } else {
-                Err(why)
-            }
-        }
+        Err(why) if why.kind() == ErrorKind::InvalidInput => Ok(()),
+        synced => synced,
     }
 }
 
-// Keeps the first bytes of a buffer in a new file, or answers why that was not done.
-fn keep_first(rt: &HostRuntime, buffer: &[u8], len: usize) -> io::Result<()> {
-    if len > buffer.len() {
-        return Err(io::Error::from(ErrorKind::InvalidData));
-    }
-    make_file(rt, 4, &buffer[..len])
-}
-
-// Keeps the first bytes of a buffer in a new file.
-fn keep(rt: &HostRuntime, buffer: &[u8], len: usize) {
-    match keep_first(rt, buffer, len) {
-        Ok(()) => console::tell(console::SERVED),
+// Keeps a book that was chosen in the file that argument 4 names, which is told, or says why not.
+fn keep(rt: &HostRuntime, bytes: &[u8]) {
+    match make_file(rt, 4, bytes) {
+        Ok(()) => console::tell(Status::Served as u8),
         Err(why) => console::fail(
             rt,
             b"gristvalley: the chosen book could not be written",
@@ -125,21 +84,48 @@ fn keep(rt: &HostRuntime, buffer: &[u8], len: usize) {
     }
 }
 
-// Keeps choice n in a new file, which has no name yet that a planner gave it; so nothing is printed but a refusal.
-fn write_choice(rt: &HostRuntime, s: &[u8], n: u32) {
-    let mut out = [0u8; 4096];
-    let w = write::write(s, n, &mut out);
-    match w {
-        Written::Length(len) => keep(rt, &out, len),
-        Written::Refused(no, place) => console::answer(rt, commands::written(w)),
+// `read`.
+fn read(rt: &HostRuntime, s: &[u8]) {
+    console::answer(rt, commands::read(s));
+}
+
+// `judge CHOICE`.
+fn judge(rt: &HostRuntime, s: &[u8]) {
+    if let Some(n) = number_at(rt, 3, b"CHOICE") {
+        console::answer(rt, commands::judge(s, n));
+    }
+}
+
+// `open CHOICE SPAN`. Both words are looked at before one is missed.
+fn open(rt: &HostRuntime, s: &[u8]) {
+    let choice = number_at(rt, 3, b"CHOICE");
+    let span = number_at(rt, 4, b"SPAN");
+    if let (Some(n), Some(x)) = (choice, span) {
+        console::answer(rt, commands::open(s, n, x));
+    }
+}
+
+// `search LIMIT`.
+fn search(rt: &HostRuntime, s: &[u8]) {
+    if let Some(limit) = number_at(rt, 3, b"LIMIT") {
+        console::answer(rt, commands::search(s, limit));
+    }
+}
+
+// `write CHOICE FILE`: keeps the choice in a new file, which has no name yet that a planner gave it; so nothing is printed but a refusal.
+fn write_out(rt: &HostRuntime, s: &[u8]) {
+    if let Some(n) = number_at(rt, 3, b"CHOICE") {
+        let mut out = [0u8; 4096];
+        match write::write(s, n, &mut out) {
+            Ok(len) => keep(rt, &out[..len]),
+            refused => console::answer(rt, commands::written(refused)),
+        }
     }
 }
 
 // `named FOLDER`, of a book that was written and has its name: prints that it is written, once the folder has it on its disk. The book was read by its name, and
 // choice 0 of what was read is the book itself.
 fn named(rt: &HostRuntime, s: &[u8]) {
-    let mut out = [0u8; 4096];
-    let w = write::write(s, 0, &mut out);
     if let Err(why) = sync_folder(rt, 3) {
         console::fail(
             rt,
@@ -148,85 +134,32 @@ fn named(rt: &HostRuntime, s: &[u8]) {
         );
         return;
     }
+    let mut out = [0u8; 4096];
+    let w = write::write(s, 0, &mut out);
     match w {
-        Written::Length(len) => console::answer(rt, commands::written(w)),
-        Written::Refused(no, place) => console::say(
-            rt,
-            b"gristvalley: OUT does not hold what was written\n",
-        ),
-    }
-}
-
-// `read`.
-fn read(rt: &HostRuntime, s: &[u8]) {
-    let t = commands::read(s);
-    console::answer(rt, t);
-}
-
-// `judge CHOICE`.
-fn judge(rt: &HostRuntime, s: &[u8]) {
-    let p = number_at(rt, 3, b"CHOICE");
-    if let Parsed::Number(n) = p {
-        let t = commands::judge(s, n);
-        console::answer(rt, t);
-    }
-}
-
-// `open CHOICE SPAN`.
-fn open(rt: &HostRuntime, s: &[u8]) {
-    let p = number_at(rt, 3, b"CHOICE");
-    let q = number_at(rt, 4, b"SPAN");
-    if let Parsed::Number(n) = p {
-        if let Parsed::Number(x) = q {
-            let t = commands::open(s, n, x);
-            console::answer(rt, t);
-        }
-    }
-}
-
-// `search LIMIT`.
-fn search(rt: &HostRuntime, s: &[u8]) {
-    let p = number_at(rt, 3, b"LIMIT");
-    if let Parsed::Number(limit) = p {
-        let t = commands::search(s, limit);
-        console::answer(rt, t);
-    }
-}
-
-// `write CHOICE FILE`.
-fn write_out(rt: &HostRuntime, s: &[u8]) {
-    let p = number_at(rt, 3, b"CHOICE");
-    if let Parsed::Number(n) = p {
-        write_choice(rt, s, n);
+        Ok(_) => console::answer(rt, commands::written(w)),
+        Err(_) => console::say(rt, b"gristvalley: OUT does not hold what was written\n"),
     }
 }
 
 // Answers the command that the verb names.
 fn answer(rt: &HostRuntime, verb: &[u8], s: &[u8]) {
-    if same(verb, b"read") {
-        read(rt, s);
-    } else if same(verb, b"judge") {
-        judge(rt, s);
-    } else if same(verb, b"open") {
-        open(rt, s);
-    } else if same(verb, b"search") {
-        search(rt, s);
-    } else if same(verb, b"write") {
-        write_out(rt, s);
-    } else if same(verb, b"named") {
-        named(rt, s);
-    } else {
-        console::say(rt, b"gristvalley: the first argument is no command\n");
+    match verb {
+        b"read" => read(rt, s),
+        b"judge" => judge(rt, s),
+        b"open" => open(rt, s),
+        b"search" => search(rt, s),
+        b"write" => write_out(rt, s),
+        b"named" => named(rt, s),
+        _ => console::say(rt, b"gristvalley: the first argument is no command\n"),
     }
 }
 
 fn main(rt: HostRuntime) {
-    let mut verb = [0u8; 4096];
-    let k = word_at(&rt, 1, &mut verb);
+    let mut word = [0u8; 4096];
+    let verb = word_at(&rt, 1, &mut word);
     let mut space = [0u8; 4096];
-    let m = console::read_file(&rt, 2, b"BOOK", &mut space);
-    let len = m.len;
-    if m.failed.is_none() {
-        answer(&rt, &verb[..k], &space[..len]);
+    if let Ok(n) = console::read_file(&rt, 2, b"BOOK", &mut space) {
+        answer(&rt, verb, &space[..n]);
     }
 }

@@ -1,10 +1,10 @@
 -- THE CHOICES OF A BOOK: their number is 1 to 16,777,216, and numbers below it and valid rows of eight digits correspond one to one.
 -- A well-formed book has at most seven alternatives for one lightpath, so that its sizes are those which the struct tells.
-use Prim.Native.Nat.{ℕ, zero, suc, ◌+◌, ◌*◌, ◌%◌, ◌^◌, ◌≤◌, ◌<◌, min}
+use Prim.Native.Nat.{ℕ, zero, suc, ◌+◌, ◌%◌, ◌^◌, ◌≤◌, ◌<◌, min}
 use mathlib.Core.Path.{◌≡◌, refl, sym, ap, ap₂, ◌∙◌}
 use mathlib.Core.List.{List, [], ◌∷◌, map}
 use mathlib.Core.Bool.{true}
-use native.Mathlib.Nat.{mul-le-mul, pow-succ', mod_self, mod-eq_of_lt}
+use native.Mathlib.Nat.{mod_self, mod-eq_of_lt}
 use native.Mathlib.Omega.{arith}
 use lib.ListN.{length, get_or, length-map}
 use Rattle.book.specs.Book.{RouteBook, count, well_formed}
@@ -13,6 +13,7 @@ use Rattle.book.specs.Moving.{movables_of, capped, sizes_in}
 use Rattle.book.specs.declared.choice.Movables.{Movables}
 use Rattle.book.proofs.Padded.{padded_long, padded_at}
 use Rattle.book.proofs.Numbering.{Sizes, product_pos, number_of, number_below, digits_valid, digits_of, step_digits, step_number}
+use Rattle.book.proofs.Digits.{product_most}
 use Rattle.book.proofs.Gathered.{seven_most, eight_most}
 use Rattle.book.proofs.Chosen.{sizes_above}
 
@@ -25,13 +26,6 @@ map_most c h (k ∷ ks) (suc i) = map_most c h ks i
 capped_same : (ws : List ℕ) → ((i : ℕ) → get_or ws i 0 ≤ 7) → capped ws ≡ map suc ws
 capped_same [] h = refl
 capped_same (w ∷ ws) h = let e : min w 7 ≡ w = omega (arith, h 0) in ap₂ (λ (x : ℕ) (l : List ℕ). suc x ∷ l) e (capped_same ws (λ i. h (suc i)))
-
-product_most : (ws : List ℕ) → ((i : ℕ) → get_or ws i 0 ≤ 7) → product (map suc ws) ≤ 8 ^ length ws
-unfolding product
-product_most [] h = omega arith
-product_most (w ∷ ws) h =
-    let a : suc w * product (map suc ws) ≤ 8 * 8 ^ length ws = mul-le-mul (omega (arith, h 0)) (product_most ws (λ i. h (suc i))) in
-    omega (arith, a, pow-succ' 8 (length ws))
 
 module _ (m : RouteBook) (w : well_formed m ≡ true) where
   listed_most : (i : ℕ) → get_or (alternatives_each m) i 0 ≤ 7
@@ -51,7 +45,7 @@ module _ (m : RouteBook) (w : well_formed m ≡ true) where
   pub choices_most : choices m ≤ 16777216
   choices_most =
       let e : length (alternatives_each m) ≡ 8 = sym (length-map (alternatives_each m) suc) ∙ eight_digits in
-      omega (arith, product_most (alternatives_each m) listed_most, ap (λ (n : ℕ). 8 ^ n) e)
+      omega (arith, product_most (alternatives_each m), ap product sizes-in, ap (λ (n : ℕ). 8 ^ n) e)
 
 -- from number to digits and back, and from digits to number and back
 module _ (m : RouteBook) where

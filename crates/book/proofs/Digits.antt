@@ -1,23 +1,29 @@
 -- The loops over the eight digits: what is left to compute from digit i on gives, with what is computed, the whole.
 -- Every size is at most 8, so that a product of i of them is at most 8 to the power i, and no sum or product here leaves 32 bits.
-use Prim.Native.Nat.{ℕ, suc, ◌+◌, ◌*◌, ◌/◌, ◌%◌, ◌^◌, ◌≤◌, ◌<◌, min}
-use mathlib.Core.Path.{◌≡◌, refl, sym, ap, ap₂, ◌∙◌}
-use mathlib.Core.List.{List, [], ◌∷◌, ◌++◌, append_assoc, append-nil}
+use Prim.Native.Nat.{ℕ, zero, suc, ◌+◌, ◌-◌, ◌*◌, ◌/◌, ◌%◌, ◌^◌, ◌≤◌, ◌<◌, min}
+use mathlib.Core.Path.{◌≡◌, refl, sym, ap, ap₂, ◌∙◌, subst}
+use mathlib.Core.List.{List, [], ◌∷◌, ◌++◌, map-id, append_assoc, append-nil}
+use mathlib.Core.Logic.{◌⊎◌, inl, inr}
 use mathlib.Core.Bool.{Bool, cond}
 use native.Mathlib.Numerals.{add-one}
-use native.Mathlib.Nat.{mul_assoc, mul_comm, mul-one, one-mul, mul-le-mul, pow-le-pow_right, pow-succ'}
+use native.Mathlib.Nat.{mul_assoc, mul-one, one-mul, mul-le-mul, mul-le-mul_left, mul-le-mul_right, pow-succ'}
 use native.Mathlib.Omega.{arith}
-use lib.ListN.{length, get_or, take, drop, set, length-set, length-map, drop_of_length-le, get_or-map}
+use lib.ListN.{length, get_or, take, drop, set, length-map, drop_of_length-le, get_or-map}
 use lib.Seq.{drop-cons, take-suc-set, drop-set-lt, set_split, take_all}
 use lib.Dec.{ltb}
 use borrow.Author.Tests.{lt-ltb, le-ltb}
+use Rattle.std.specs.Bool.{⊤}
+use Rattle.std.specs.Iterator.{Yields, Drains}
+use Rattle.std.specs.Iterator.Runs.{EachRunFrom, YieldsRun}
+use Rattle.std.specs.List.{fold}
+use Rattle.std.specs.Prelude.{Option}
+use Rattle.std.proofs.lemmas.Iterator.{YieldsList}
+use Rattle.std.proofs.lemmas.Iterator.Adapters.{total_from_yields_List}
+use Rattle.std.proofs.lemmas.Iterator.Consumers.{YieldsList-so_far}
 use Rattle.book.specs.Choice.{product, weighed, number, digits, stepped}
 use Rattle.book.specs.Moving.{capped}
 
 -- the size of digit i, and those after it
-pub size_most : (w : ℕ) → suc (min w 7) ≤ 8
-size_most w = omega arith
-
 from_size : (ws : List ℕ) (i : ℕ) → length ws ≡ 8 → i < 8 → drop i (capped ws) ≡ suc (min (get_or ws i 0) 7) ∷ drop (i + 1) (capped ws)
 from_size ws i long l =
     drop-cons (capped ws) i 1 (omega (arith, long, length-map ws (λ (x : ℕ). suc (min x 7))))
@@ -30,149 +36,111 @@ up_to : (out : List ℕ) (i x : ℕ) (t : List ℕ) → length out ≡ 8 → i <
 up_to out i x t long l =
     ap (λ (y : ℕ). take y (set out i x) ++ t) (add-one i) ∙ ap (λ (y : List ℕ). y ++ t) (take-suc-set out i x (omega (arith, long))) ∙ append_assoc (take i out) (x ∷ []) t
 
-no_more : (ws : List ℕ) → length ws ≡ 8 → drop 8 (capped ws) ≡ []
-no_more ws long = drop_of_length-le (capped ws) {i = 8} (omega (arith, long, length-map ws (λ (x : ℕ). suc (min x 7))))
+no_more : (ws : List ℕ) (i : ℕ) → length ws ≡ 8 → 8 ≤ i → drop i (capped ws) ≡ []
+no_more ws i long l = drop_of_length-le (capped ws) {i = i} (omega (arith, long, length-map ws (λ (x : ℕ). suc (min x 7))))
 
--- powers of 8
-pub power : (i : ℕ) → i < 8 → (8 ^ (i + 1) ≡ 8 * 8 ^ i) × (8 ^ (i + 1) ≤ 16777216)
-power i l = (ap (λ (k : ℕ). 8 ^ k) (add-one i) ∙ pow-succ' 8 i, pow-le-pow_right {n = 8} (omega arith) {i = i + 1} {j = 8} (omega arith))
+-- the product of the sizes is at most 8 for each
+power_some : (n : ℕ) → 1 ≤ 8 ^ n
+power_some zero = omega arith
+power_some (suc n) = omega (arith, power_some n, pow-succ' 8 n)
 
-pub times_size : (z t i : ℕ) → i < 8 → z ≤ 8 → t ≤ 8 ^ i → (z * t ≤ 8 ^ (i + 1)) × (z * t ≤ 16777216)
-times_size z t i l p q = let a : z * t ≤ 8 * 8 ^ i = mul-le-mul p q in (omega (arith, a, power i l), omega (arith, a, power i l))
+pub product_some : (ws : List ℕ) → 1 ≤ product (capped ws)
+unfolding product
+product_some [] = omega arith
+product_some (w ∷ ws) = let a : 1 * 1 ≤ suc (min w 7) * product (capped ws) = mul-le-mul {n₁ = 1} {n₂ = suc (min w 7)} (omega arith) (product_some ws) in omega (arith, a)
 
--- the product of the sizes
-pub record Multiplied (ws : List ℕ) (t i : ℕ) : Type 0 where
-  pub long : length ws ≡ 8
-  pub few : i ≤ 8
-  pub most : t ≤ 8 ^ i
-  pub left : t * product (drop i (capped ws)) ≡ product (capped ws)
+pub product_most : (ws : List ℕ) → product (capped ws) ≤ 8 ^ length ws
+unfolding product
+product_most [] = omega arith
+product_most (w ∷ ws) =
+    let a : suc (min w 7) * product (capped ws) ≤ 8 * 8 ^ length ws = mul-le-mul {n₁ = suc (min w 7)} {n₂ = 8} (omega arith) (product_most ws) in
+    omega (arith, a, pow-succ' 8 (length ws))
 
-module _ (ws : List ℕ) where
-  pub multiplied_start : length ws ≡ 8 → Multiplied ws 1 0
-  multiplied_start e = record { long = e; few = omega arith; most = omega arith; left = one-mul (product (capped ws)) }
+-- the first k sizes have no larger product; and the library's product of a list is this one
+product_front : (k : ℕ) (ws : List ℕ) → product (take k (capped ws)) ≤ product (capped ws)
+unfolding product
+product_front zero ws = product_some ws
+product_front (suc k) [] = omega arith
+product_front (suc k) (w ∷ ws) = mul-le-mul_left (suc (min w 7)) (product_front k ws)
 
-  pub multiplied_next : (t i : ℕ) → Multiplied ws t i → i < 8 → Multiplied ws (suc (min (get_or ws i 0) 7) * t) (i + 1)
-  unfolding product
-  multiplied_next t i h l =
-      let z = suc (min (get_or ws i 0) 7) in
-      let rest = product (drop (i + 1) (capped ws)) in
-      record {
-        long = h.long;
-        few = omega arith;
-        most = (times_size z t i l (size_most (get_or ws i 0)) h.most).0;
-        left = ap (λ (x : ℕ). x * rest) (mul_comm z t) ∙ mul_assoc t z rest ∙ ap (λ (x : List ℕ). t * product x) (sym (from_size ws i h.long l)) ∙ h.left;
-      }
+folded : (a : ℕ) (xs : List ℕ) → fold (λ n x. n * x) a xs ≡ a * product xs
+unfolding product
+folded a [] = sym (mul-one a)
+folded a (x ∷ xs) = folded (a * x) xs ∙ mul_assoc a x (product xs)
 
-  pub multiplied_end : (t : ℕ) → Multiplied ws t 8 → t ≡ product (capped ws)
-  unfolding product
-  multiplied_end t h = sym (mul-one t) ∙ ap (λ (x : List ℕ). t * product x) (sym (no_more ws h.long)) ∙ h.left
+-- so the product along an iterator of the sizes fits, and is the product of all
+module _ {S : Type 0} {steps : S → Option ℕ → S → Type 0} {s : S} (ws : List ℕ) (road : YieldsList steps (λ x. x) s (capped ws)) where
+  pub product_fits : length ws ≡ 8 → EachRunFrom steps s (λ p. fold (λ n x. n * x) 1 p.items < 2 ^ 32)
+  unfolding YieldsRun
+  product_fits long p seen at =
+      let front = YieldsList-so_far road p.items p.gave.0.0 (subst (λ u. Yields steps u p.items p.gave.0.0) at p.gave.0.1) in
+      omega (arith, folded 1 p.items, ap product (sym (map-id p.items) ∙ front), product_front (length p.items) ws, product_most ws, ap (λ (n : ℕ). 8 ^ n) long)
 
--- the number of the digits: what is summed, and the weight of digit i
-pub record Weighing (ws ds : List ℕ) (n w i : ℕ) : Type 0 where
-  pub long : length ws ≡ 8
-  pub eight : length ds ≡ 8
-  pub few : i ≤ 8
-  pub most : w ≤ 8 ^ i
-  pub small : 7 * n + 255 ≤ 255 * 8 ^ i
-  pub left : n + weighed w (drop i (capped ws)) (drop i ds) ≡ number (capped ws) ds
+  pub product_all : (r : ℕ) → ((xs : List ℕ) × (⊤ → Drains steps s xs) × (r ≡ fold (λ n x. n * x) 1 xs)) → r ≡ product (capped ws)
+  product_all r ran = total_from_yields_List (λ n x. n * x) 1 r ran road ∙ folded 1 (capped ws) ∙ one-mul (product (capped ws))
 
-pub digit_times : (w d i : ℕ) → i < 8 → d ≤ 255 → w ≤ 8 ^ i → (d * w ≤ 255 * 8 ^ i) × (8 ^ i ≤ 2097152)
-digit_times w d i l p q = (mul-le-mul p q, omega (arith, power i l))
+-- the number of the digits that are left, where the next has the weight w; of bytes it is small
+weighed_more : (w d z y p n : ℕ) → d ≤ 255 → z + y ≡ 8 → 1 ≤ p → 7 * n + 255 * (w * z) ≤ 255 * (w * z * p) → 7 * (d * w + n) + 255 * w ≤ 255 * (w * (8 * p))
+weighed_more w d z y p n l e s h =
+    omega (arith, h, mul-le-mul_right w l, mul-le-mul_left (w * y) s, ap (λ (k : ℕ). w * k) e, ap (λ (k : ℕ). w * k * p) e)
 
-module _ (ws ds : List ℕ) where
-  pub weighing_start : length ws ≡ 8 → length ds ≡ 8 → Weighing ws ds 0 1 0
-  weighing_start e f = record { long = e; eight = f; few = omega arith; most = omega arith; small = omega arith; left = omega arith }
+weighed_most : (w : ℕ) (ws ds : List ℕ) → ((i : ℕ) → get_or ds i 0 ≤ 255) → 7 * weighed w (capped ws) ds + 255 * w ≤ 255 * (w * 8 ^ length ws)
+unfolding weighed
+weighed_most w [] ds h = omega arith
+weighed_most w (x ∷ ws) [] h = omega (arith, mul-le-mul_left w (power_some (suc (length ws))))
+weighed_most w (x ∷ ws) (d ∷ ds) h =
+    rw (pow-succ' 8 (length ws))
+    (weighed_more w d (suc (min x 7)) (7 - min x 7) (8 ^ length ws) _ (h 0) (omega arith) (power_some (length ws)) (weighed_most (w * suc (min x 7)) ws ds (λ i. h (suc i))))
 
-  pub weighing_next : (n w i : ℕ) → Weighing ws ds n w i → i < 8 → get_or ds i 0 ≤ 255 → Weighing ws ds (n + get_or ds i 0 * w) (w * suc (min (get_or ws i 0) 7)) (i + 1)
-  unfolding weighed
-  weighing_next n w i h l p =
-      let z = suc (min (get_or ws i 0) 7) in
-      let d = get_or ds i 0 in
-      let cut : weighed w (drop i (capped ws)) (drop i ds) ≡ d * w + weighed (w * z) (drop (i + 1) (capped ws)) (drop (i + 1) ds) =
-      ap₂ (weighed w) (from_size ws i h.long l) (from_digit ds i h.eight l)
-      in
-      record {
-        long = h.long;
-        eight = h.eight;
-        few = omega arith;
-        most = omega (arith, mul_comm w z, times_size z w i l (size_most (get_or ws i 0)) h.most);
-        small = omega (arith, h.small, power i l, digit_times w d i l p h.most);
-        left = omega (arith, cut, h.left);
-      }
+pub number_most : (ws ds : List ℕ) → length ws ≡ 8 → ((i : ℕ) → get_or ds i 0 ≤ 255) → number (capped ws) ds < 2 ^ 32
+number_most ws ds long h = omega (arith, weighed_most 1 ws ds h, ap (λ (n : ℕ). 8 ^ n) long)
 
-  pub weighing_end : (n w : ℕ) → Weighing ws ds n w 8 → n ≡ number (capped ws) ds
-  unfolding weighed
-  weighing_end n w h = omega (arith, h.left, ap (λ (x : List ℕ). weighed w x (drop 8 ds)) (no_more ws h.long))
+-- by the lists of the digits and the numbers of alternatives that are left: their next ones are d and x; or one of them is at its end
+pub product_next : (w : ℕ) {x : ℕ} {ws vs : List ℕ} → ws ≡ x ∷ vs → w * product (capped ws) ≡ w * suc (min x 7) * product (capped vs)
+unfolding product
+product_next w {x} {ws} {vs} is = rw is (sym (mul_assoc w (suc (min x 7)) (product (capped vs))))
 
--- the digits of a number: those found, and what is left of the number for the others
-pub record Splitting (ws : List ℕ) (n : ℕ) (out : List ℕ) (rest i : ℕ) : Type 0 where
-  pub long : length ws ≡ 8
-  pub eight : length out ≡ 8
-  pub few : i ≤ 8
-  pub left : take i out ++ digits (drop i (capped ws)) rest ≡ digits (capped ws) n
+pub weighed_next : (w : ℕ) {d x : ℕ} {ds es ws vs : List ℕ} → ds ≡ d ∷ es → ws ≡ x ∷ vs → weighed w (capped ws) ds ≡ d * w + weighed (w * suc (min x 7)) (capped vs) es
+unfolding weighed
+weighed_next w is_d is_x = rw (is_d, is_x) refl
 
-module _ (ws : List ℕ) (n : ℕ) where
-  pub splitting_start : (out : List ℕ) → length ws ≡ 8 → length out ≡ 8 → Splitting ws n out n 0
-  splitting_start out e f = record { long = e; eight = f; few = omega arith; left = refl }
+pub weighed_end : (w : ℕ) (ws ds : List ℕ) → (length ds ≡ 0) ⊎ (length ws ≡ 0) → weighed w (capped ws) ds ≡ 0
+unfolding weighed
+weighed_end w [] ds e = refl
+weighed_end w (x ∷ ws) [] e = refl
+weighed_end w (x ∷ ws) (d ∷ ds) (inl e) = absurd (omega arith)
+weighed_end w (x ∷ ws) (d ∷ ds) (inr e) = absurd (omega arith)
 
-  pub splitting_next : (out : List ℕ) (rest i z : ℕ) → Splitting ws n out rest i → i < 8 → z ≡ suc (min (get_or ws i 0) 7) → Splitting ws n (set out i (rest % z)) (rest / z) (i + 1)
+-- the digits of a number: those found, and those of what is left of the number
+module _ (ws out : List ℕ) (i rest : ℕ) (long : length ws ≡ 8) (eight : length out ≡ 8) {whole : List ℕ} (left : take i out ++ digits (drop i (capped ws)) rest ≡ whole) where
+  pub split_next : {z : ℕ} → i < 8 → z ≡ suc (min (get_or ws i 0) 7) → take (i + 1) (set out i (rest % z)) ++ digits (drop (i + 1) (capped ws)) (rest / z) ≡ whole
   unfolding digits
-  splitting_next out rest i z h l e = record {
-    long = h.long;
-    eight = length-set out i (rest % z) ∙ h.eight;
-    few = omega arith;
-    left = up_to out i (rest % z) (digits (drop (i + 1) (capped ws)) (rest / z)) h.eight l
-        ∙ rw e (ap (λ (x : List ℕ). take i out ++ digits x rest) (sym (from_size ws i h.long l)) ∙ h.left);
-  }
+  split_next {z} l e =
+      up_to out i (rest % z) (digits (drop (i + 1) (capped ws)) (rest / z)) eight l ∙ rw e (ap (λ (x : List ℕ). take i out ++ digits x rest) (sym (from_size ws i long l)) ∙ left)
 
-  pub splitting_end : (out : List ℕ) (rest : ℕ) → Splitting ws n out rest 8 → out ≡ digits (capped ws) n
+  pub split_all : 8 ≤ i → out ≡ whole
   unfolding digits
-  splitting_end out rest h = sym (sym h.left ∙ rw (take_all 8 out (omega (arith, h.eight)), no_more ws h.long) (append-nil out))
+  split_all l = sym (sym left ∙ rw (take_all i out (omega (arith, eight)), no_more ws i long l) (append-nil out))
 
--- the next choice: the digits before i have gone back to 0, and those from i on are as they were
-pub record Stepping (ws ds out : List ℕ) (i : ℕ) : Type 0 where
-  pub long : length ws ≡ 8
-  pub eight : length ds ≡ 8
-  pub out_eight : length out ≡ 8
-  pub few : i ≤ 8
-  pub kept : drop i out ≡ drop i ds
-  pub left : stepped (capped ws) ds ≡ take i out ++ stepped (drop i (capped ws)) (drop i ds)
+-- the next choice: the digits before i have gone back to 0, and those from i on are stepped
+module _ (ws out : List ℕ) (i : ℕ) (long : length ws ≡ 8) (eight : length out ≡ 8) {whole : List ℕ} (left : take i out ++ stepped (drop i (capped ws)) (drop i out) ≡ whole) where
+  module _ (l : i < 8) where
+    step_at : (t : Bool) → ltb (get_or out i 0 + 1) (suc (min (get_or ws i 0) 7)) ≡ t
+        → stepped (drop i (capped ws)) (drop i out) ≡ cond t ((get_or out i 0 + 1) ∷ drop (i + 1) out) (0 ∷ stepped (drop (i + 1) (capped ws)) (drop (i + 1) out))
+    unfolding stepped
+    step_at t e = rw (from_size ws i long l, from_digit out i eight l, e)
 
-pub stepping_start : (ws ds : List ℕ) → length ws ≡ 8 → length ds ≡ 8 → Stepping ws ds ds 0
-stepping_start ws ds e f = record { long = e; eight = f; out_eight = f; few = omega arith; kept = refl; left = refl }
+    pub step_up : get_or out i 0 + 1 < suc (min (get_or ws i 0) 7) → set out i (get_or out i 0 + 1) ≡ whole
+    step_up p =
+        set_split out i (get_or out i 0 + 1) (omega (arith, eight)) ∙ ap (λ (y : ℕ). take i out ++ ((get_or out i 0 + 1) ∷ drop y out)) (sym (add-one i))
+        ∙ ap (λ (x : List ℕ). take i out ++ x) (sym (step_at _ (lt-ltb _ _ p))) ∙ left
 
-module _ (ws ds out : List ℕ) (i : ℕ) (h : Stepping ws ds out i) (l : i < 8) where
-  here : get_or out i 0 ∷ drop (i + 1) out ≡ get_or ds i 0 ∷ drop (i + 1) ds
-  here = sym (from_digit out i h.out_eight l) ∙ h.kept ∙ from_digit ds i h.eight l
+    pub step_back : suc (min (get_or ws i 0) 7) ≤ get_or out i 0 + 1 → take (i + 1) (set out i 0) ++ stepped (drop (i + 1) (capped ws)) (drop (i + 1) (set out i 0)) ≡ whole
+    step_back p =
+        up_to out i 0 (stepped (drop (i + 1) (capped ws)) (drop (i + 1) (set out i 0))) eight l
+        ∙ ap (λ (x : List ℕ). take i out ++ (0 ∷ stepped (drop (i + 1) (capped ws)) x)) (drop-set-lt (i + 1) out i 0 (omega arith))
+        ∙ ap (λ (x : List ℕ). take i out ++ x) (sym (step_at _ (le-ltb _ _ p))) ∙ left
 
-  pub same : get_or out i 0 ≡ get_or ds i 0
-  same = ap (λ (x : List ℕ). get_or x 0 0) here
-
-  after : drop (i + 1) out ≡ drop (i + 1) ds
-  after = ap (λ (x : List ℕ). drop 1 x) here
-
-  step_at : (t : Bool) → ltb (get_or ds i 0 + 1) (suc (min (get_or ws i 0) 7)) ≡ t
-      → stepped (drop i (capped ws)) (drop i ds) ≡ cond t ((get_or ds i 0 + 1) ∷ drop (i + 1) ds) (0 ∷ stepped (drop (i + 1) (capped ws)) (drop (i + 1) ds))
+  pub step_all : 8 ≤ i → out ≡ whole
   unfolding stepped
-  step_at t e = rw (from_size ws i h.long l, from_digit ds i h.eight l, e)
-
-  pub stepping_hit : get_or out i 0 + 1 < suc (min (get_or ws i 0) 7) → set out i (get_or out i 0 + 1) ≡ stepped (capped ws) ds
-  stepping_hit p =
-      set_split out i (get_or out i 0 + 1) (omega (arith, h.out_eight))
-      ∙ sym (h.left ∙ ap (λ (x : List ℕ). take i out ++ x) (step_at _ (lt-ltb (get_or ds i 0 + 1) (suc (min (get_or ws i 0) 7)) (omega (arith, same)))
-      ∙ sym (ap₂ (λ (x : ℕ) (y : List ℕ). (x + 1) ∷ y) same (ap (λ (y : ℕ). drop y out) (sym (add-one i)) ∙ after))))
-
-  pub stepping_next : suc (min (get_or ws i 0) 7) ≤ get_or out i 0 + 1 → Stepping ws ds (set out i 0) (i + 1)
-  stepping_next p = record {
-    long = h.long;
-    eight = h.eight;
-    out_eight = length-set out i 0 ∙ h.out_eight;
-    few = omega arith;
-    kept = drop-set-lt (i + 1) out i 0 (omega arith) ∙ after;
-    left = h.left ∙ ap (λ (x : List ℕ). take i out ++ x) (step_at _ (le-ltb (get_or ds i 0 + 1) (suc (min (get_or ws i 0) 7)) (omega (arith, same))))
-        ∙ sym (up_to out i 0 (stepped (drop (i + 1) (capped ws)) (drop (i + 1) ds)) h.out_eight l);
-  }
-
-pub stepping_end : (ws ds out : List ℕ) → Stepping ws ds out 8 → out ≡ stepped (capped ws) ds
-unfolding stepped
-stepping_end ws ds out h = sym (h.left ∙ rw (take_all 8 out (omega (arith, h.out_eight)), no_more ws h.long) (append-nil out))
+  step_all l = sym (sym left ∙ rw (take_all i out (omega (arith, eight)), no_more ws i long l) (append-nil out))

@@ -1,21 +1,19 @@
 -- The book that holds what was read, kind by kind: after each record the arrays hold one more, and after the last the book holds them all.
 -- What is left to read is the business of proofs/Turns.antt; here stands what is in the arrays.
 use Prim.Native.Nat.{ℕ, ◌+◌, ◌≤◌, ◌<◌}
-use mathlib.Core.Path.{◌≡◌, refl, sym, ap, ◌∙◌}
+use mathlib.Core.Path.{◌≡◌, refl, sym, ap, ◌∙◌, subst}
 use mathlib.Core.List.{List, [], ◌∷◌, map, reverse, reverse-cons}
 use mathlib.Core.Bool.{Bool}
 use native.Mathlib.Omega.{arith}
-use lib.ListN.{length, get_or, drop, set, replicate, length-reverse}
-use lib.Seq.{get_or-drop}
-use lib.Dec.{eqb}
+use lib.ListN.{length, drop, set, replicate, length-reverse}
 use Rattle.book.specs.declared.Book.{Book}
 use Rattle.book.specs.Reader.{each}
 use Rattle.book.specs.Book.{Span}
 use Rattle.book.specs.Format.{nd, sp}
 use Rattle.book.specs.Bits.{put_if, stations_into, station_set}
 use Rattle.book.specs.Memory.{padded, book_of, empty_book, remade}
-use Rattle.book.specs.Inside.{Numbered, span_in, partly, Reached, Halted, HoldsNodes, HoldsSpans}
-use Rattle.book.proofs.Numbers.{at_first}
+use Rattle.book.specs.declared.refusal.Refusal.{Refusal}
+use Rattle.book.specs.Inside.{partly, Came, Reached, Halted, HoldsNodes, HoldsSpans}
 use Rattle.book.proofs.Padded.{padded_none}
 use Rattle.book.proofs.Stations.{stations_more}
 use Rattle.book.proofs.Turns.{Turned, turned_start, turned_next, turned_stop, turned_done, column_more}
@@ -31,25 +29,23 @@ module _ (s : List ℕ) (start m : ℕ) where
   unfolding stations_into
   nodes_start l = record { before = []; turned = turned_start (λ x. nd) s start m l; is_set = refl }
 
-  module _ {k at stations : ℕ} (now : NodesTurned k at stations) (l : k < m) {no : ℕ} (n : Numbered no nd (drop at s) (eqb (get_or (drop at s) 2 0) 1) 3) where
-    pub nodes_next : no ≡ 0 → NodesTurned (k + 1) (at + 3) (put_if (eqb (get_or s (at + 2) 0) 1) stations k)
-    nodes_next z =
-        let q : eqb (get_or s (at + 2) 0) 1 ≡ eqb (get_or (drop at s) 2 0) 1 = ap (λ (x : ℕ). eqb x 1) (sym (get_or-drop at s 2 0)) in
+  module _ {k at stations : ℕ} (now : NodesTurned k at stations) (l : k < m) where
+    pub nodes_next : {t : Bool} → Came s (nd (drop at s) (drop at s)) t (at + 3) → NodesTurned (k + 1) (at + 3) (put_if t stations k)
+    nodes_next {t} h =
         let c : k ≡ 0 + length (reverse now.before) = omega (arith, now.turned.counted, length-reverse now.before) in
         record {
-          before = eqb (get_or (drop at s) 2 0) 1 ∷ now.before;
-          turned = turned_next (λ x. nd) s start m now.turned l (at_first n) z;
+          before = t ∷ now.before;
+          turned = turned_next (λ x. nd) s start m now.turned l h;
           is_set =
-              ap (λ (b : Bool). put_if b stations k) q ∙ ap (λ (x : ℕ). put_if (eqb (get_or (drop at s) 2 0) 1) x k) now.is_set
-              ∙ ap (put_if (eqb (get_or (drop at s) 2 0) 1) (station_set (reverse now.before))) c
-              ∙ sym (ap station_set (reverse-cons (eqb (get_or (drop at s) 2 0) 1) now.before) ∙ stations_more 0 0 (reverse now.before) (eqb (get_or (drop at s) 2 0) 1));
+              ap (λ (x : ℕ). put_if t x k) now.is_set ∙ ap (put_if t (station_set (reverse now.before))) c
+              ∙ sym (ap station_set (reverse-cons t now.before) ∙ stations_more 0 0 (reverse now.before) t);
         }
 
-    pub nodes_stop : (no ≡ 0 → ⊥) → Halted s (each (λ x. nd) m [] s (drop start s)) no at
-    nodes_stop h = record { is = turned_stop (λ x. nd) s start m now.turned l (at_first n) h; within = now.turned.within }
+    pub nodes_stop : {r : Refusal} → Halted s (nd (drop at s) (drop at s)) r → Halted s (each (λ x. nd) m [] s (drop start s)) r
+    nodes_stop = turned_stop (λ x. nd) s start m now.turned l
 
   pub nodes_done : {k at stations : ℕ} → NodesTurned k at stations → m ≤ k → {b : Book} → b ≡ book_of empty_book
-      → Reached s (each (λ x. nd) m [] s (drop start s)) HoldsNodes at (remade m b.spans b.lightpaths b.alternatives stations b.left b.right b.limit b.from b.to b.owner b.len b.route b.low b.high)
+      → Reached s (each (λ x. nd) m [] s (drop start s)) HoldsNodes (record { next = at; book = remade m b.spans b.lightpaths b.alternatives stations b.left b.right b.limit b.from b.to b.owner b.len b.route b.low b.high })
   nodes_done {k} {at} now h e =
       let c : m ≡ length (reverse now.before) = omega (arith, now.turned.counted, now.turned.few, length-reverse now.before) in
       record {
@@ -77,25 +73,27 @@ module _ (nodes : ℕ) (s : List ℕ) (start m : ℕ) where
     is_limit = sym (padded_none 128);
   }
 
-  module _ {k at : ℕ} {left right limit : List ℕ} (now : SpansTurned k at left right limit) (l : k < m) {no : ℕ} (n : Numbered no (sp nodes) (drop at s) (span_in (drop at s)) 5) where
-    pub spans_next : no ≡ 0 → m ≤ 128 → SpansTurned (k + 1) (at + 5) (set left k (get_or s (at + 2) 0)) (set right k (get_or s (at + 3) 0)) (set limit k (get_or s (at + 4) 0))
-    spans_next z few =
+  module _ {k at : ℕ} {left right limit : List ℕ} (now : SpansTurned k at left right limit) (l : k < m) where
+    pub spans_next : {x : Span} → Came s (sp nodes (drop at s) (drop at s)) x (at + 5) → m ≤ 128 → SpansTurned (k + 1) (at + 5) (set left k x.left) (set right k x.right) (set limit k x.limit)
+    spans_next {x} h few =
         let c = now.turned.counted in
         let u : k < 128 = omega arith in
         record {
-          before = span_in (drop at s) ∷ now.before;
-          turned = turned_next (λ x. sp nodes) s start m now.turned l (at_first n) z;
-          is_left = ap (set left k) (sym (get_or-drop at s 2 0)) ∙ column_more 128 (λ (x : Span). x.left) k now.before (span_in (drop at s)) left c u now.is_left;
-          is_right = ap (set right k) (sym (get_or-drop at s 3 0)) ∙ column_more 128 (λ (x : Span). x.right) k now.before (span_in (drop at s)) right c u now.is_right;
-          is_limit = ap (set limit k) (sym (get_or-drop at s 4 0)) ∙ column_more 128 (λ (x : Span). x.limit) k now.before (span_in (drop at s)) limit c u now.is_limit;
+          before = x ∷ now.before;
+          turned = turned_next (λ y. sp nodes) s start m now.turned l h;
+          is_left = column_more 128 (λ (x : Span). x.left) k now.before x left c u now.is_left;
+          is_right = column_more 128 (λ (x : Span). x.right) k now.before x right c u now.is_right;
+          is_limit = column_more 128 (λ (x : Span). x.limit) k now.before x limit c u now.is_limit;
         }
 
-    pub spans_stop : (no ≡ 0 → ⊥) → Halted s (each (λ x. sp nodes) m [] s (drop start s)) no at
-    spans_stop h = record { is = turned_stop (λ x. sp nodes) s start m now.turned l (at_first n) h; within = now.turned.within }
+pub spans_stop : (s : List ℕ) (start m : ℕ) (b : Book) (ns : List Bool) → b ≡ book_of (partly ns [] [] []) → {k at : ℕ} {left right limit : List ℕ}
+    → SpansTurned b.nodes s start m k at left right limit → k < m → {r : Refusal} → Halted s (sp b.nodes (drop at s) (drop at s)) r → Halted s (each (λ x. sp (length ns)) m [] s (drop start s)) r
+spans_stop s start m b ns e now l {r} h =
+    subst (λ (x : Book). Halted s (each (λ y. sp x.nodes) m [] s (drop start s)) r) e (turned_stop (λ x. sp b.nodes) s start m now.turned l h)
 
 pub spans_done : (s : List ℕ) (start m : ℕ) (b : Book) (ns : List Bool) → b ≡ book_of (partly ns [] [] []) → {k at : ℕ} {left right limit : List ℕ}
     → SpansTurned b.nodes s start m k at left right limit → m ≤ k
-    → Reached s (each (λ x. sp (length ns)) m [] s (drop start s)) (HoldsSpans ns) at (remade b.nodes m b.lightpaths b.alternatives b.stations left right limit b.from b.to b.owner b.len b.route b.low b.high)
+    → Reached s (each (λ x. sp (length ns)) m [] s (drop start s)) (HoldsSpans ns) (record { next = at; book = remade b.nodes m b.lightpaths b.alternatives b.stations left right limit b.from b.to b.owner b.len b.route b.low b.high })
 spans_done s start m b ns e now h =
     let c : m ≡ length (reverse now.before) = omega (arith, now.turned.counted, now.turned.few, length-reverse now.before) in
     record {

@@ -8,10 +8,12 @@ pub mod Stands
 pub mod Endings
 pub mod Strays
 pub mod Refusals
+pub mod Faults
+pub mod Tabled
 pub mod BadSpan
 pub mod Longest
 pub mod Bits
-pub mod Numbers
+pub mod Steps
 pub mod Walking
 pub mod Stations
 pub mod Once

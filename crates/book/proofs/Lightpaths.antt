@@ -1,50 +1,32 @@
 -- The loops over LP and AL records: what a book's arrays say of its spans and lightpaths, and what they hold after one more record.
 -- Both different end with a route, whose row is the business of proofs/Rows.antt; what is left to read is that of proofs/Turns.antt.
-use Prim.Native.Nat.{ℕ, suc, ◌+◌, ◌*◌, ◌≤◌, ◌<◌}
+use Prim.Native.Nat.{ℕ, ◌+◌, ◌*◌, ◌≤◌, ◌<◌}
 use mathlib.Core.Path.{◌≡◌, refl, sym, ap, ◌∙◌, subst}
-use mathlib.Core.List.{List, [], ◌∷◌, ◌++◌, map, map-append, map-map, append-nil, append_assoc, reverse, reverse-cons}
-use mathlib.Core.Bool.{Bool, true, cond}
+use mathlib.Core.List.{List, [], ◌∷◌, ◌++◌, map, map-append, append-nil, append_assoc, reverse, reverse-cons}
+use mathlib.Core.Bool.{Bool, true}
 use native.Mathlib.Omega.{arith}
-use lib.ListN.{length, get_or, take, drop, set, replicate, length-map, length-append, length-reverse, length-drop, get_or-map}
-use lib.Seq.{paste, length-paste, get_or-drop, drop-drop, length-take-le}
+use lib.ListN.{length, drop, set, replicate, length-map, length-append, length-reverse}
+use lib.Seq.{paste}
 use lib.Dec.{eqb}
 use Rattle.book.specs.declared.Book.{Book}
-use Rattle.book.specs.Reader.{bad, each}
-use Rattle.book.specs.Book.{Span, Ends, Lightpath, Alternative, every, lightpath_ends, lightpath_fits, length_fits, ends_of, lightpath_of}
+use Rattle.book.specs.Reader.{each}
+use Rattle.book.specs.Book.{Span, Lightpath, Alternative, every, lightpath_ends, lightpath_fits, length_fits, ends_of, lightpath_of}
 use Rattle.book.specs.Format.{lp, al}
 use Rattle.book.specs.Bits.{span_word}
 use Rattle.book.specs.Memory.{padded, rows, routes_of, book_of, remade}
-use Rattle.book.specs.Inside.{NumberedAt, SpansIn, EndsIn, LpNo, lightpath_in, TallyOf, AlNo, alternative_in, held_for, partly, Reached, Halted, HoldsLightpaths, HoldsAll}
+use Rattle.book.specs.declared.refusal.Refusal.{Refusal}
+use Rattle.std.specs.Prelude.{Err}
+use Rattle.book.specs.declared.record.Lightpath.{Lightpath as ReadLightpath}
+use Rattle.book.specs.declared.record.Alternative.{Alternative as ReadAlternative}
+use Rattle.book.specs.declared.record.Tally.{Tally}
+use Rattle.book.specs.Inside.{LpCame, LpRead, lightpath_in, TallyOf, AlCame, AlRead, alternative_in, held_for, tally_with, partly, Reached, Halted, HoldsLightpaths, HoldsAll}
+pub use Rattle.book.proofs.Routes.{column_at}
 use Rattle.book.proofs.Tests.{and_inv}
 use Rattle.book.proofs.Stands.{length_most}
 use Rattle.book.proofs.Tallies.{tally_none, held_most, one_most, tally_more}
-use Rattle.book.proofs.Padded.{padded_none, padded_long, padded_at}
+use Rattle.book.proofs.Padded.{padded_none, padded_long}
 use Rattle.book.proofs.Rows.{RowsIn, rows_none, row_more}
 use Rattle.book.proofs.Turns.{Turned, turned_start, turned_next, turned_stop, turned_done, column_more}
-
--- a look-up in an array is one in the list
-pub column_at : {A : Type 0} (n : ℕ) (f : A → ℕ) (xs : List A) (d : A) → f d ≡ 0 → (k : ℕ) → get_or (padded n (map f xs)) k 0 ≡ f (get_or xs k d)
-column_at n f xs d z k = padded_at n (map f xs) k ∙ ap (get_or (map f xs) k) (sym z) ∙ get_or-map f xs k d
-
--- the arrays of a book, and what it says
-module _ (ns : List Bool) (sps : List Span) (lps : List Lightpath) (als : List Alternative) {b : Book} (e : b ≡ book_of (partly ns sps lps als)) where
-  spans_in : SpansIn sps b.spans b.left b.right
-  spans_in = rw e (record {
-    counted = refl;
-    is_left = column_at 128 (λ (x : Span). x.left) sps _ refl;
-    is_right = column_at 128 (λ (x : Span). x.right) sps _ refl;
-  })
-
-  ends_in : EndsIn (map ends_of lps) b.lightpaths b.from b.to
-  ends_in = rw e (record {
-    counted = sym (length-map lps ends_of);
-    is_from = λ k. rw (← map-map (λ (x : Ends). x.from) ends_of lps) (column_at 96 (λ (x : Ends). x.from) (map ends_of lps) _ refl k);
-    is_to = λ k. rw (← map-map (λ (x : Ends). x.to) ends_of lps) (column_at 96 (λ (x : Ends). x.to) (map ends_of lps) _ refl k);
-  })
-
--- the route of a record that starts w bytes on, as the code lends it
-route_is : (s : List ℕ) (at w len : ℕ) → get_or s (at + w) 0 ≡ len → take (get_or (drop at s) w 0) (drop (suc w) (drop at s)) ≡ take len (drop (at + suc w) s)
-route_is s at w len e = rw (get_or-drop at s w 0, e, drop-drop (suc w) at s)
 
 abbrev pub route_of : Lightpath → List ℕ
 route_of p = p.route.spans
@@ -59,14 +41,13 @@ routes_more f rs before a = append_assoc rs (map f (reverse before)) (f a ∷ []
 routes_long : {A : Type 0} (f : A → List ℕ) (rs : List (List ℕ)) (before : List A) → length (rs ++ map f (reverse before)) ≡ length rs + length before
 routes_long f rs before = length-append rs (map f (reverse before)) ∙ ap (λ (n : ℕ). length rs + n) (length-map (reverse before) f ∙ length-reverse before)
 
--- the row of a record whose length stands w bytes on, and its route after that
+-- the row of a record
 module _ {A : Type 0} (f : A → List ℕ) (rs : List (List ℕ)) (before : List A) (a : A) {len route low high : List ℕ} (h : RowsIn (rs ++ map f (reverse before)) len route low high) where
-  record_row : (k l : ℕ) (r : List ℕ) → length rs + length before ≡ k → k < 152 → f a ≡ r → length r ≡ l → l ≤ 16
-      → RowsIn (rs ++ map f (reverse (a ∷ before))) (set len k l) (paste route (16 * k) r (length r)) (set low k (span_word 0 r)) (set high k (span_word 1 r))
-  record_row k l r e few is long short =
-      subst (λ (x : List (List ℕ)). RowsIn x (set len k l) (paste route (16 * k) r (length r)) (set low k (span_word 0 r)) (set high k (span_word 1 r))) (ap (λ (x : List ℕ). (rs ++ map f (reverse before)) ++ x ∷ []) (sym is) ∙ routes_more f rs before a)
-      (subst (λ (n : ℕ). RowsIn ((rs ++ map f (reverse before)) ++ r ∷ []) (set len k n) (paste route (16 * k) r (length r)) (set low k (span_word 0 r)) (set high k (span_word 1 r))) long
-      (row_more h k r (routes_long f rs before ∙ e) few (omega arith)))
+  record_row : (k : ℕ) (r : List ℕ) → length rs + length before ≡ k → k < 152 → f a ≡ r → length r ≤ 16
+      → RowsIn (rs ++ map f (reverse (a ∷ before))) (set len k (length r)) (paste route (16 * k) r (length r)) (set low k (span_word 0 r)) (set high k (span_word 1 r))
+  record_row k r e few is short =
+      subst (λ (x : List (List ℕ)). RowsIn x (set len k (length r)) (paste route (16 * k) r (length r)) (set low k (span_word 0 r)) (set high k (span_word 1 r))) (ap (λ (x : List ℕ). (rs ++ map f (reverse before)) ++ x ∷ []) (sym is) ∙ routes_more f rs before a)
+      (row_more h k r (routes_long f rs before ∙ e) few short)
 
 -- LP
 module _ (b : Book) (s : List ℕ) (start m : ℕ) where
@@ -92,45 +73,29 @@ module _ (b : Book) (s : List ℕ) (start m : ℕ) where
     in_rows = rows_none;
   }
 
-  module _ {k at : ℕ} {from to len route low high : List ℕ} (now : LightpathsTurned k at from to len route low high) (l : k < m)
-      {no i : ℕ} (n : LpNo no i (drop at s) b.nodes b.stations b.spans b.left b.right) where
-    numbered : (ns : List Bool) (sps : List Span) → b ≡ book_of (partly ns sps [] []) → NumberedAt no i (lp ns sps) (drop at s) (lightpath_in (drop at s)) (5 + get_or (drop at s) 4 0)
-    numbered ns sps e = n.told ns sps (ap (λ (x : Book). x.nodes) e) (ap (λ (x : Book). x.stations) e) (spans_in ns sps [] [] e)
+  module _ {k at : ℕ} {from to len route low high : List ℕ} (now : LightpathsTurned k at from to len route low high) (l : k < m) where
+    pub lightpaths_stop : {r : Refusal} → LpRead (Err r) s at b → (ns : List Bool) (sps : List Span) → b ≡ book_of (partly ns sps [] []) → Halted s (each (λ x. lp ns sps) m [] s (drop start s)) r
+    lightpaths_stop h ns sps e = turned_stop (λ x. lp ns sps) s start m (now.turned ns sps e) l (h ns sps e)
 
-    pub lp_inside : at + i ≤ length s
-    lp_inside = omega (arith, n.inside, length-drop at s, now.within)
-
-    pub lightpaths_stop : (no ≡ 0 → ⊥) → (ns : List Bool) (sps : List Span) → b ≡ book_of (partly ns sps [] []) → Halted s (each (λ x. lp ns sps) m [] s (drop start s)) no (at + i)
-    lightpaths_stop h ns sps e = record { is = turned_stop (λ x. lp ns sps) s start m (now.turned ns sps e) l (numbered ns sps e) h ∙ ap (bad no) (drop-drop i at s); within = lp_inside }
-
-    module _ (z : no ≡ 0) where
-      pub lp_short : get_or s (at + 4) 0 ≤ 16
-      lp_short = omega (arith, n.short z, get_or-drop at s 4 0)
-
-      pub lp_whole : at + 5 + get_or s (at + 4) 0 ≤ length s
-      lp_whole = omega (arith, n.whole z, get_or-drop at s 4 0, length-drop at s, now.within)
-
-      pub lightpaths_next : m ≤ 96 → (r : List ℕ) → r ≡ take (get_or s (at + 4) 0) (drop (at + 5) s)
-          → LightpathsTurned (k + 1) (at + 5 + get_or s (at + 4) 0) (set from k (get_or s (at + 2) 0)) (set to k (get_or s (at + 3) 0)) (set len k (get_or s (at + 4) 0))
-          (paste route (16 * k) r (length r)) (set low k (span_word 0 r)) (set high k (span_word 1 r))
-      lightpaths_next most r is =
-          let p = lightpath_in (drop at s) in
-          let u : k < 96 = omega arith in
-          let to-next : at + (5 + get_or (drop at s) 4 0) ≡ at + 5 + get_or s (at + 4) 0 = omega (arith, get_or-drop at s 4 0) in
-          let long : length r ≡ get_or s (at + 4) 0 = ap length is ∙ length-take-le (get_or s (at + 4) 0) (drop (at + 5) s) (omega (arith, lp_whole, length-drop (at + 5) s)) in
-          record {
-            before = p ∷ now.before;
-            few = omega arith;
-            within = lp_whole;
-            counted = omega (arith, now.counted);
-            turned = λ ns sps e. rw (← to-next) (turned_next (λ x. lp ns sps) s start m (now.turned ns sps e) l (numbered ns sps e) z);
-            is_from = ap (set from k) (sym (get_or-drop at s 2 0)) ∙ column_more 96 (λ (x : Lightpath). x.ends.from) k now.before p from now.counted u now.is_from;
-            is_to = ap (set to k) (sym (get_or-drop at s 3 0)) ∙ column_more 96 (λ (x : Lightpath). x.ends.to) k now.before p to now.counted u now.is_to;
-            in_rows = record_row route_of [] now.before p now.in_rows k (get_or s (at + 4) 0) r (omega (arith, now.counted)) (omega arith) (route_is s at 4 (get_or s (at + 4) 0) refl ∙ sym is) long lp_short;
-          }
+    pub lightpaths_next : m ≤ 96 → {p : ReadLightpath} → LpCame p s at b → {next : ℕ} → at + 5 + length p.route.now ≡ next
+        → LightpathsTurned (k + 1) next (set from k p.ends.from) (set to k p.ends.to) (set len k (length p.route.now))
+        (paste route (16 * k) p.route.now (length p.route.now)) (set low k (span_word 0 p.route.now)) (set high k (span_word 1 p.route.now))
+    lightpaths_next most {p} h {next} q =
+        let x = lightpath_in p in
+        let u : k < 96 = omega arith in
+        record {
+          before = x ∷ now.before;
+          few = omega arith;
+          within = omega (arith, h.within);
+          counted = omega (arith, now.counted);
+          turned = λ ns sps e. turned_next (λ x. lp ns sps) s start m (now.turned ns sps e) l (record { is = rw (← q) (h.told ns sps e); within = omega (arith, h.within) });
+          is_from = column_more 96 (λ (x : Lightpath). x.ends.from) k now.before x from now.counted u now.is_from;
+          is_to = column_more 96 (λ (x : Lightpath). x.ends.to) k now.before x to now.counted u now.is_to;
+          in_rows = record_row route_of [] now.before x now.in_rows k p.route.now (omega (arith, now.counted)) (omega arith) refl h.short;
+        }
 
   pub lightpaths_done : {k at : ℕ} {from to len route low high : List ℕ} → LightpathsTurned k at from to len route low high → m ≤ k
-      → (ns : List Bool) (sps : List Span) → b ≡ book_of (partly ns sps [] []) → Reached s (each (λ x. lp ns sps) m [] s (drop start s)) (HoldsLightpaths ns sps) at (remade b.nodes b.spans m b.alternatives b.stations b.left b.right b.limit from to b.owner len route low high)
+      → (ns : List Bool) (sps : List Span) → b ≡ book_of (partly ns sps [] []) → Reached s (each (λ x. lp ns sps) m [] s (drop start s)) (HoldsLightpaths ns sps) (record { next = at; book = remade b.nodes b.spans m b.alternatives b.stations b.left b.right b.limit from to b.owner len route low high })
   lightpaths_done {k} {at} {from} {to} {len} {route} {low} {high} now h ns sps e =
       let c : m ≡ length (reverse now.before) = omega (arith, now.counted, now.few, length-reverse now.before) in
       let x : RowsIn (routes_of (reverse now.before) []) len route low high = subst (λ (l : List (List ℕ)). RowsIn l len route low high) (sym (append-nil (map route_of (reverse now.before)))) now.in_rows in
@@ -154,29 +119,27 @@ routes_filled ns sps before (p ∷ lps) h =
 
 -- AL: the rows follow those of the lightpaths
 module _ (b : Book) (s : List ℕ) (start m : ℕ) where
-  pub record AlternativesTurned (k at last same many : ℕ) (owner len route low high : List ℕ) : Type 0 where
+  pub record AlternativesTurned (k at : ℕ) (t : Tally) (owner len route low high : List ℕ) : Type 0 where
     pub before : List Alternative
     pub few : k ≤ m
     pub within : at ≤ length s
     pub counted : length before ≡ k
-    pub same_few : same ≤ k
-    pub many_few : many ≤ k
-    pub long : length route ≡ 2432
-    pub tally : TallyOf (map lightpath_of before) last same many
+    pub same_few : t.same ≤ k
+    pub many_few : t.different ≤ k
+    pub tally : TallyOf (map lightpath_of before) t.last t.same t.different
     pub turned : (ns : List Bool) (sps : List Span) (lps : List Lightpath) → b ≡ book_of (partly ns sps lps []) → Turned (al sps (map ends_of lps)) s start m k at before
     pub is_owner : owner ≡ padded 56 (map lightpath_of (reverse before))
     pub in_rows : (ns : List Bool) (sps : List Span) (lps : List Lightpath) → b ≡ book_of (partly ns sps lps []) → every (λ x. lightpath_fits ns sps) [] lps ≡ true
         → RowsIn (routes_of lps (reverse before)) len route low high
 
-  pub alternatives_start : start ≤ length s → length b.route ≡ 2432 → AlternativesTurned 0 start 0 0 0 (replicate 56 0) b.len b.route b.low b.high
-  alternatives_start l long = record {
+  pub alternatives_start : start ≤ length s → AlternativesTurned 0 start (record { last = 0; same = 0; different = 0 }) (replicate 56 0) b.len b.route b.low b.high
+  alternatives_start l = record {
     before = [];
     few = omega arith;
     within = l;
     counted = refl;
     same_few = omega arith;
     many_few = omega arith;
-    long = long;
     tally = tally_none;
     turned = λ ns sps lps e. turned_start (al sps (map ends_of lps)) s start m l;
     is_owner = sym (padded_none 56);
@@ -191,55 +154,33 @@ module _ (b : Book) (s : List ℕ) (start m : ℕ) where
         });
   }
 
-  module _ {k at last same many : ℕ} {owner len route low high : List ℕ} (now : AlternativesTurned k at last same many owner len route low high) (l : k < m)
-      {no i : ℕ} (n : AlNo no i (drop at s) b.lightpaths last same many b.spans b.from b.to b.left b.right) where
-    numbered_al : (ns : List Bool) (sps : List Span) (lps : List Lightpath) → b ≡ book_of (partly ns sps lps [])
-        → NumberedAt no i (al sps (map ends_of lps) now.before) (drop at s) (alternative_in (drop at s)) (4 + get_or (drop at s) 3 0)
-    numbered_al ns sps lps e = n.told sps (map ends_of lps) now.before (spans_in ns sps lps [] e) (ends_in ns sps lps [] e) now.tally
+  module _ {k at : ℕ} {t : Tally} {owner len route low high : List ℕ} (now : AlternativesTurned k at t owner len route low high) (l : k < m) where
+    pub alternatives_stop : {r : Refusal} → AlRead (Err r) s at t b → (ns : List Bool) (sps : List Span) (lps : List Lightpath) → b ≡ book_of (partly ns sps lps []) → Halted s (each (al sps (map ends_of lps)) m [] s (drop start s)) r
+    alternatives_stop h ns sps lps e = turned_stop (al sps (map ends_of lps)) s start m (now.turned ns sps lps e) l (h ns sps lps now.before e now.tally)
 
-    pub al_inside : at + i ≤ length s
-    al_inside = omega (arith, n.inside, length-drop at s, now.within)
+    pub alternatives_next : m ≤ 56 → b.lightpaths ≤ 96 → {a : ReadAlternative} → AlCame a s at t b → {next : ℕ} → at + 4 + length a.route.now ≡ next
+        → AlternativesTurned (k + 1) next (tally_with t a.lightpath) (set owner k a.lightpath) (set len (b.lightpaths + k) (length a.route.now))
+        (paste route (16 * (b.lightpaths + k)) a.route.now (length a.route.now)) (set low (b.lightpaths + k) (span_word 0 a.route.now)) (set high (b.lightpaths + k) (span_word 1 a.route.now))
+    alternatives_next most paths {a} h {next} q =
+        let x = alternative_in a in
+        record {
+          before = x ∷ now.before;
+          few = omega arith;
+          within = omega (arith, h.within);
+          counted = omega (arith, now.counted);
+          same_few = omega (arith, held_most t.last t.same a.lightpath, now.same_few);
+          many_few = omega (arith, one_most (eqb (held_for t.last t.same a.lightpath) 0), now.many_few);
+          tally = tally_more (map lightpath_of now.before) t.last t.same t.different now.tally a.lightpath h.risen;
+          turned = λ ns sps lps e. turned_next (al sps (map ends_of lps)) s start m (now.turned ns sps lps e) l (record { is = rw (← q) (h.told ns sps lps now.before e now.tally); within = omega (arith, h.within) });
+          is_owner = column_more 56 lightpath_of k now.before x owner now.counted (omega arith) now.is_owner;
+          in_rows = λ ns sps lps e f.
+              record_row alt_route (map route_of lps) now.before x (now.in_rows ns sps lps e f) (b.lightpaths + k) a.route.now
+              (omega (arith, now.counted, length-map lps route_of, ap (λ (x : Book). x.lightpaths) e)) (omega arith) refl h.short;
+        }
 
-    pub alternatives_stop : (no ≡ 0 → ⊥) → (ns : List Bool) (sps : List Span) (lps : List Lightpath) → b ≡ book_of (partly ns sps lps []) → Halted s (each (al sps (map ends_of lps)) m [] s (drop start s)) no (at + i)
-    alternatives_stop h ns sps lps e = record { is = turned_stop (al sps (map ends_of lps)) s start m (now.turned ns sps lps e) l (numbered_al ns sps lps e) h ∙ ap (bad no) (drop-drop i at s); within = al_inside }
-
-    module _ (z : no ≡ 0) where
-      pub al_short : get_or s (at + 3) 0 ≤ 16
-      al_short = omega (arith, n.short z, get_or-drop at s 3 0)
-
-      pub al_whole : at + 4 + get_or s (at + 3) 0 ≤ length s
-      al_whole = omega (arith, n.whole z, get_or-drop at s 3 0, length-drop at s, now.within)
-
-      pub alternatives_next : m ≤ 56 → b.lightpaths ≤ 96 → (r : List ℕ) → r ≡ take (get_or s (at + 3) 0) (drop (at + 4) s)
-          → AlternativesTurned (k + 1) (at + 4 + get_or s (at + 3) 0) (get_or s (at + 2) 0) (held_for last same (get_or s (at + 2) 0) + 1) (many + cond (eqb (held_for last same (get_or s (at + 2) 0)) 0) 1 0)
-          (set owner k (get_or s (at + 2) 0)) (set len (b.lightpaths + k) (get_or s (at + 3) 0))
-          (paste route (16 * (b.lightpaths + k)) r (length r)) (set low (b.lightpaths + k) (span_word 0 r)) (set high (b.lightpaths + k) (span_word 1 r))
-      alternatives_next most paths r is =
-          let a = alternative_in (drop at s) in
-          let w = get_or s (at + 2) 0 in
-          let who : get_or (drop at s) 2 0 ≡ w = get_or-drop at s 2 0 in
-          let to-next : at + (4 + get_or (drop at s) 3 0) ≡ at + 4 + get_or s (at + 3) 0 = omega (arith, get_or-drop at s 3 0) in
-          let long : length r ≡ get_or s (at + 3) 0 = ap length is ∙ length-take-le (get_or s (at + 3) 0) (drop (at + 4) s) (omega (arith, al_whole, length-drop (at + 4) s)) in
-          record {
-            before = a ∷ now.before;
-            few = omega arith;
-            within = al_whole;
-            counted = omega (arith, now.counted);
-            same_few = omega (arith, held_most last same w, now.same_few);
-            many_few = omega (arith, one_most (eqb (held_for last same w) 0), now.many_few);
-            long = length-paste route (16 * (b.lightpaths + k)) r (length r) (omega (arith, now.long, al_short)) (omega arith) ∙ now.long;
-            tally = subst (λ (x : ℕ). TallyOf (x ∷ map lightpath_of now.before) w (held_for last same w + 1) (many + cond (eqb (held_for last same w) 0) 1 0)) (sym who)
-                (tally_more (map lightpath_of now.before) last same many now.tally w (omega (arith, n.risen z)));
-            turned = λ ns sps lps e. rw (← to-next) (turned_next (al sps (map ends_of lps)) s start m (now.turned ns sps lps e) l (numbered_al ns sps lps e) z);
-            is_owner = ap (set owner k) (sym who) ∙ column_more 56 lightpath_of k now.before a owner now.counted (omega arith) now.is_owner;
-            in_rows = λ ns sps lps e f.
-                record_row alt_route (map route_of lps) now.before a (now.in_rows ns sps lps e f) (b.lightpaths + k) (get_or s (at + 3) 0) r
-                (omega (arith, now.counted, length-map lps route_of, ap (λ (x : Book). x.lightpaths) e)) (omega arith) (route_is s at 3 (get_or s (at + 3) 0) refl ∙ sym is) long al_short;
-          }
-
-  pub alternatives_done : {k at last same many : ℕ} {owner len route low high : List ℕ} → AlternativesTurned k at last same many owner len route low high → m ≤ k
+  pub alternatives_done : {k at : ℕ} {t : Tally} {owner len route low high : List ℕ} → AlternativesTurned k at t owner len route low high → m ≤ k
       → (ns : List Bool) (sps : List Span) (lps : List Lightpath) → b ≡ book_of (partly ns sps lps []) → every (λ x. lightpath_fits ns sps) [] lps ≡ true
-      → Reached s (each (al sps (map ends_of lps)) m [] s (drop start s)) (HoldsAll ns sps lps) at (remade b.nodes b.spans b.lightpaths m b.stations b.left b.right b.limit b.from b.to owner len route low high)
+      → Reached s (each (al sps (map ends_of lps)) m [] s (drop start s)) (HoldsAll ns sps lps) (record { next = at; book = remade b.nodes b.spans b.lightpaths m b.stations b.left b.right b.limit b.from b.to owner len route low high })
   alternatives_done {k} {at} now h ns sps lps e f =
       let c : m ≡ length (reverse now.before) = omega (arith, now.counted, now.few, length-reverse now.before) in
       let x = now.in_rows ns sps lps e f in

@@ -1,49 +1,58 @@
 -- The loop that puts the chosen routes in their rows: after i movable lightpaths, moving the others gives the whole.
 -- Rows are copied from the routes as they were read, so that no row that is still to be copied has been written over.
-use Prim.Native.Nat.{ℕ, ◌+◌, ◌*◌, ◌≤◌, ◌<◌, min}
+use Prim.Native.Nat.{ℕ, zero, suc, ◌+◌, ◌*◌, ◌≤◌, ◌<◌, min}
 use mathlib.Core.Path.{◌≡◌, refl, sym, ap, ◌∙◌}
-use mathlib.Core.List.{List}
+use mathlib.Core.List.{List, [], ◌∷◌}
+use native.Mathlib.Numerals.{add-one}
 use native.Mathlib.Omega.{arith}
-use lib.ListN.{length, get_or, take, drop, length-take, drop_of_length-le}
-use lib.Seq.{drop-drop, get_or-drop}
-use Rattle.book.specs.Moving.{Rows, row_of, moved_row, moved}
-use Rattle.book.proofs.Movables.{taken_next}
-use Rattle.book.proofs.Laid.{laid_long}
+use lib.ListN.{length, take}
+use Rattle.std.proofs.lemmas.List.{take_min}
+use Rattle.book.specs.declared.Book.{Book}
+use Rattle.book.specs.declared.choice.Movables.{Movables}
+use Rattle.book.specs.declared.choice.Choice.{Choice}
+use Rattle.book.specs.Moving.{Rows, row_of, moved_row, moved, rows_in, with_rows_of, chosen_in}
 
-module _ (listed : Rows) (start : ℕ) (ks ws ds : List ℕ) where
-  pub record Moving (n : ℕ) (r : Rows) (first i : ℕ) : Type 0 where
-    pub long : length ks ≡ 8
-    pub eight : n ≤ 8
-    pub few : i ≤ n
-    pub wide : length r.route ≡ 2432
-    pub near : first ≤ 255 + 255 * i
-    pub left : moved listed first (drop i (take n ks)) (drop i ws) (drop i ds) r ≡ moved listed start (take n ks) ws ds listed
+-- moving the first n of the movable lightpaths: the next of them is moved, or there is none
+moved_next : (listed r : Rows) (first n m : ℕ) {k x d : ℕ} {ks ls ws vs ds es : List ℕ} → ks ≡ k ∷ ls → ws ≡ x ∷ vs → ds ≡ d ∷ es → m + 1 ≡ n
+    → moved listed first (take n ks) ws ds r ≡ moved listed (first + x) (take m ls) vs es (moved_row listed r (min k 95) (row_of (min k 95) first d))
+unfolding moved
+moved_next listed r first n m is_k is_x is_d is_n = rw (is_k, is_x, is_d, ← is_n, add-one m) refl
 
-  pub moving_start : (n : ℕ) → length ks ≡ 8 → n ≤ 8 → length listed.route ≡ 2432 → start ≤ 255 → Moving n listed start 0
-  moving_start n e f w g = record { long = e; eight = f; few = omega arith; wide = w; near = omega arith; left = refl }
+moved_all : (listed r : Rows) (first n : ℕ) (ks ws ds : List ℕ) → (0 < n → length ks ≡ 0) → moved listed first (take n ks) ws ds r ≡ r
+unfolding moved
+moved_all listed r first zero ks ws ds none = refl
+moved_all listed r first (suc n) [] ws ds none = refl
+moved_all listed r first (suc n) (k ∷ ks) ws ds none = let e : length (k ∷ ks) ≡ 0 = none (omega arith) in absurd (omega arith)
 
-  head : (i : ℕ) (xs : List ℕ) → get_or (drop i xs) 0 0 ≡ get_or xs i 0
-  head i xs = let z : i + 0 ≡ i = omega arith in get_or-drop i xs 0 0 ∙ ap (λ (k : ℕ). get_or xs k 0) z
+-- b is the book, and `new` is b with the rows as they now are; the movable lightpaths that are left are the first n of ks, with ws and ds
+module _ (b : Book) (w : Movables) (c : Choice) where
+  pub record Moving (new : Book) (first n : ℕ) (ks ws ds : List ℕ) : Type 0 where
+    pub kept : new ≡ with_rows_of b (rows_in new)
+    pub left : with_rows_of b (moved (rows_in b) first (take n ks) ws ds (rows_in new)) ≡ chosen_in b w c
+    pub near : first + 255 * length ks ≤ 2295
+    pub of_ws : length ws ≡ length ks
+    pub of_ds : length ds ≡ length ks
 
-  pub moving_next : {n : ℕ} {r : Rows} {first i : ℕ} → Moving n r first i → i < n → get_or ws i 0 ≤ 255
-      → Moving n (moved_row listed r (min (get_or ks i 0) 95) (row_of (min (get_or ks i 0) 95) first (get_or ds i 0))) (first + get_or ws i 0) (i + 1)
-  unfolding moved
-  moving_next {n} {r} {first} {i} h l q =
-      let cut = taken_next n ks i (omega (arith, h.long, h.eight)) l in
-      let rows = drop (16 * row_of (min (get_or ks i 0) 95) first (get_or ds i 0)) listed.route in
+  pub moving_start : b.lightpaths ≤ 255 → length w.lightpath ≡ 8 → length w.more ≡ 8 → length c.digits ≡ 8 → Moving b b.lightpaths w.count w.lightpath w.more c.digits
+  moving_start f e g h = record {
+    kept = refl;
+    left = ap (λ (x : List ℕ). with_rows_of b (moved (rows_in b) b.lightpaths x w.more c.digits (rows_in b))) (sym (take_min w.count w.lightpath) ∙ ap (λ (n : ℕ). take (min w.count n) w.lightpath) e);
+    near = omega arith;
+    of_ws = g ∙ sym e;
+    of_ds = h ∙ sym e;
+  }
+
+  pub moving_next : {new : Book} {first n m k x d : ℕ} {ks ls ws vs ds es : List ℕ} → Moving new first n ks ws ds → ks ≡ k ∷ ls → ws ≡ x ∷ vs → ds ≡ d ∷ es → m + 1 ≡ n → x ≤ 255
+      → Moving (with_rows_of new (moved_row (rows_in b) (rows_in new) (min k 95) (row_of (min k 95) first d))) (first + x) m ls vs es
+  moving_next {new} {first} {n} {m} {k} {x} {d} {ks} {ls} {ws} {vs} {ds} {es} h is_k is_x is_d is_n low =
+      let long : length ks ≡ suc (length ls) = ap length is_k in
       record {
-        long = h.long;
-        eight = h.eight;
-        few = omega arith;
-        wide = laid_long r.route (16 * min (get_or ks i 0) 95) (take 16 rows) (omega (arith, h.wide, length-take 16 rows)) ∙ h.wide;
-        near = omega (arith, h.near);
-        left =
-            (λ j. moved listed (first + sym (head i ws) j) (drop (i + 1) (take n ks)) (sym (drop-drop 1 i ws) j) (sym (drop-drop 1 i ds) j)
-            (moved_row listed r (min (get_or ks i 0) 95) (row_of (min (get_or ks i 0) 95) first (sym (head i ds) j))))
-            ∙ ap (λ (x : List ℕ). moved listed first x (drop i ws) (drop i ds) r) (sym cut) ∙ h.left;
+        kept = ap (λ (z : Book). with_rows_of z (moved_row (rows_in b) (rows_in new) (min k 95) (row_of (min k 95) first d))) h.kept;
+        left = ap (with_rows_of b) (sym (moved_next (rows_in b) (rows_in new) first n m is_k is_x is_d is_n)) ∙ h.left;
+        near = omega (arith, h.near, long);
+        of_ws = omega (arith, h.of_ws, long, ap length is_x);
+        of_ds = omega (arith, h.of_ds, long, ap length is_d);
       }
 
-  pub moving_end : (n : ℕ) {r : Rows} {first : ℕ} → Moving n r first n → r ≡ moved listed start (take n ks) ws ds listed
-  unfolding moved
-  moving_end n {r} {first} h =
-      ap (λ (x : List ℕ). moved listed first x (drop n ws) (drop n ds) r) (sym (drop_of_length-le (take n ks) {i = n} (omega (arith, length-take n ks)))) ∙ h.left
+  pub moving_end : {new : Book} {first n : ℕ} {ks ws ds : List ℕ} → Moving new first n ks ws ds → (0 < n → length ks ≡ 0) → new ≡ chosen_in b w c
+  moving_end {new} {first} {n} {ks} {ws} {ds} h none = h.kept ∙ ap (with_rows_of b) (sym (moved_all (rows_in b) (rows_in new) first n ks ws ds none)) ∙ h.left

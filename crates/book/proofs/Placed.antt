@@ -9,7 +9,7 @@ use native.Mathlib.Decide.{ℕ_discrete, dec_lt}
 use native.Mathlib.Nat.{mul-zero, mul-suc}
 use native.Mathlib.Omega.{arith}
 use lib.ListN.{length, get_or, take, drop, set, replicate, length-map, length-append, length-set, get_or-append, get_or-map}
-use lib.Seq.{set-append_left, get_or-set_same, get_or-set_other, get_or-append-add, ext_get_or, drop_at, take_at}
+use lib.Seq.{map-set, set-append_left, get_or-set_same, get_or-set_other, get_or-append-add, ext_get_or, drop_at, take_at}
 use lib.Dec.{eqb, ltb}
 use borrow.Author.Tests.{eq-eqb, ne_eqb, lt-ltb}
 use Rattle.book.specs.Book.{Span, Route, Ends, Lightpath, RouteBook, count, lightpath_of, well_formed}
@@ -41,16 +41,11 @@ abbrev Short : List (List ℕ) → Type 0
 Short rs = (i : ℕ) → length (get_or rs i []) ≤ 16
 
 -- one row replaced, in an array of one number a row, and in the rows
-map_set : {A : Type 0} (f : A → ℕ) (xs : List A) (k : ℕ) (x : A) → map f (set xs k x) ≡ set (map f xs) k (f x)
-map_set f [] k x = refl
-map_set f (y ∷ xs) zero x = refl
-map_set f (y ∷ xs) (suc k) x = ap (λ (l : List ℕ). f y ∷ l) (map_set f xs k x)
-
 column_set : {A : Type 0} (n : ℕ) (f : A → ℕ) (xs : List A) (k : ℕ) (x : A) → k < length xs → set (padded n (map f xs)) k (f x) ≡ padded n (map f (set xs k x))
 unfolding padded
 column_set n f xs k x l =
     let e : n - length (map f xs) ≡ n - length (map f (set xs k x)) = omega (arith, length-map xs f, length-map (set xs k x) f, length-set xs k x) in
-    set-append_left (map f xs) (replicate (n - length (map f xs)) 0) k (f x) (omega (arith, length-map xs f)) ∙ ap₂ (λ (l : List ℕ) (i : ℕ). l ++ replicate i 0) (sym (map_set f xs k x)) e
+    set-append_left (map f xs) (replicate (n - length (map f xs)) 0) k (f x) (omega (arith, length-map xs f)) ∙ ap₂ (λ (l : List ℕ) (i : ℕ). l ++ replicate i 0) (sym (map-set f xs k x)) e
 
 rows_set : (w k : ℕ) (rs : List (List ℕ)) (t r : List ℕ) → ((i : ℕ) → length (get_or rs i []) ≤ w) → length r ≤ w → k < length rs → laid (rows w rs ++ t) (w * k) (padded w r) ≡ rows w (set rs k r) ++ t
 unfolding rows

@@ -12,13 +12,15 @@ use borrow.Author.Tests.{ltb-true, ltb-false, leb-true, leb-false, lt-leb, le-le
 use Rattle.book.specs.Book.{RouteBook, well_formed}
 use Rattle.book.specs.Format.{encode, Reading, good, refused, reading}
 use Rattle.book.specs.Choice.{sizes, choices, product, digits, route_by, chosen}
-use Rattle.book.specs.Writing.{Writing, served, denied, fitted, fitted_of, writing_of, writing, buffer, written_number, written_place, written_length, written_of}
-use Rattle.book.specs.declared.write.Written.{Written}
-use Rattle.book.specs.declared.write.Written.TheVariants.{Length}
+use Rattle.book.specs.Writing.{Writing, served, denied, fitted, fitted_of, writing_of, writing, buffer, written_length, written_of}
+use Rattle.std.specs.Prelude.{Result, Ok}
+use Rattle.book.specs.declared.refusal.Refusal.{Refusal}
+use Rattle.book.specs.Memory.{fault_number, fault_of, number_of, place_of}
 use Rattle.book.proofs.Readers.{Bytes}
 use Rattle.book.proofs.Format.{reading_only}
 use Rattle.book.proofs.Longest.{longest}
 use Rattle.book.proofs.Unique.{refused_within}
+use Rattle.book.proofs.Tabled.{refused_number}
 use Rattle.book.proofs.Chosen.{choice_fits, chosen_sizes, chosen_none, chosen_zero, chosen_reads}
 use Rattle.book.proofs.Choices.{choices_some}
 use Rattle.book.proofs.Written.{no_such_choice, such_a_choice}
@@ -105,7 +107,7 @@ buffer_served w out l =
     (length-append w (drop (length w) out) ∙ omega (arith, length-drop (length w) out), take-append_seam w (drop (length w) out), drop-append_seam w (drop (length w) out))
 
 -- END TO END, from the contract of `write`: r is its answer, and x the buffer `out` afterwards
-module _ (b : List ℕ) (n : ℕ) (out : List ℕ) (r : Written) (x : List ℕ) (h : Bytes b)
+module _ (b : List ℕ) (n : ℕ) (out : List ℕ) (r : Result ℕ Refusal) (x : List ℕ) (h : Bytes b)
     (met : (r ≡ written_of (writing b n (length out))) × (x ≡ buffer (writing b n (length out)) out)) where
   -- number 0: the buffer has its length still, begins with the chosen book, and is as it was beyond; and what was written reads back
   pub record Back : Type 0 where
@@ -119,7 +121,7 @@ module _ (b : List ℕ) (n : ℕ) (out : List ℕ) (r : Written) (x : List ℕ) 
     pub same_choices : choices (chosen book n) ≡ choices book
     pub same_routes : (k : ℕ) → k < length book.lightpaths → route_by (chosen book n) (digits (sizes (chosen book n)) 0) k ≡ route_by book (digits (sizes book) n) k
 
-  back_of : {w : List ℕ} → Wrote b n (length out) w → r ≡ Length (length w) → x ≡ buffer (served w) out → Back
+  back_of : {w : List ℕ} → Wrote b n (length out) w → r ≡ Ok (length w) → x ≡ buffer (served w) out → Back
   back_of {w} a e f =
       let long : written_length r ≡ length w = ap written_length e in
       let z = buffer_served w out a.fits in
@@ -141,17 +143,22 @@ module _ (b : List ℕ) (n : ℕ) (out : List ℕ) (r : Written) (x : List ℕ) 
   denied_above (no_choice m e l) = omega arith
   denied_above (no_room m e l f) = omega arith
 
-  pub number_served : written_number r ≡ 0 → Back
+  denied_number : {k p : ℕ} → Denied b n (length out) k p → fault_number (fault_of k) ≡ k
+  denied_number (at_fault {k} {p} e) = refused_number b e
+  denied_number (no_choice m e l) = refl
+  denied_number (no_room m e l f) = refl
+
+  pub number_served : number_of r ≡ 0 → Back
   number_served z = go (answered b n (length out) h) met.0 met.1
     where
       go : {v : Writing} → Answered b n (length out) v → r ≡ written_of v → x ≡ buffer v out → Back
       go (was_served a) e f = back_of a e f
-      go (was_denied d) e f = absurd (omega (arith, denied_above d, ap written_number e))
+      go (was_denied d) e f = absurd (omega (arith, z, denied_above d, denied_number d, ap number_of e))
 
   -- any other: a refusal on the ground with that number, at that place, and the buffer as it was, all of it
-  pub number_denied : (written_number r ≡ 0 → ⊥) → Denied b n (length out) (written_number r) (written_place r) × (x ≡ out)
+  pub number_denied : (number_of r ≡ 0 → ⊥) → Denied b n (length out) (number_of r) (place_of r) × (x ≡ out)
   number_denied z = go (answered b n (length out) h) met.0 met.1
     where
-      go : {v : Writing} → Answered b n (length out) v → r ≡ written_of v → x ≡ buffer v out → Denied b n (length out) (written_number r) (written_place r) × (x ≡ out)
-      go (was_served a) e f = absurd (z (ap written_number e))
-      go (was_denied d) e f = (rw e d, f)
+      go : {v : Writing} → Answered b n (length out) v → r ≡ written_of v → x ≡ buffer v out → Denied b n (length out) (number_of r) (place_of r) × (x ≡ out)
+      go (was_served a) e f = absurd (z (ap number_of e))
+      go (was_denied d) e f = (rw (e, denied_number d) d, f)

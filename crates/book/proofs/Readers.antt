@@ -12,7 +12,6 @@ use borrow.Author.Tests.{leb-true, le-leb, eqb-true, eq-eqb}
 use Rattle.book.specs.Reader.{Got, got, bad, Reader, and_then, need, each, fields, Mark, is_mark, opened}
 use Rattle.book.specs.Book.{below, every}
 use Rattle.book.specs.Format.{record_bytes, bytes_of, field}
-use Rattle.book.specs.Inside.{tab}
 use Rattle.book.proofs.Tests.{and_inv, and_both}
 
 -- a list of bytes
@@ -56,7 +55,11 @@ fields_only k here s {v} {t} e = go (leb k (length s)) refl e
     go false l q = absurd (apart q)
 
 -- a list by its elements
-shape : (v : List ℕ) → v ≡ tab (field v) (length v)
+abbrev pub tab : (ℕ → ℕ) → ℕ → List ℕ
+tab f zero = []
+tab f (suc n) = f 0 ∷ tab (λ i. f (suc i)) n
+
+pub shape : (v : List ℕ) → v ≡ tab (field v) (length v)
 shape [] = refl
 shape (x ∷ v) = ap (λ (l : List ℕ). x ∷ l) (shape v)
 

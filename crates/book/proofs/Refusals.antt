@@ -13,8 +13,7 @@ use Rattle.book.specs.Reader.{Got, got, bad, Reader, and_then, need, each, field
 use Rattle.book.specs.Book.{Span, Route, Ends, Lightpath, Alternative, RouteBook, some, below, counts_fit, span_ends, lightpath_ends, length_fits, route_walks, follows, lightpath_of, ends_of, well_formed}
 use Rattle.book.specs.Format.{HD, ND, SP, LP, AL, EN, record_bytes, field, hd, nd, sp, from_high, from_stray, route, lp, al, at_end, encode, book, refused, placed, reading}
 use Rattle.book.specs.Refusal.{Due, head, nodes, spans, lightpaths, alternatives, ending, past, Stands, at_head, after_head, after_node, after_nodes, after_span, after_spans, after_lightpath, after_lightpaths, after_alternative, after_alternatives, after_ending, Opens, opens_hd, opens_nd, opens_sp, opens_lp, opens_al, opens_en, RouteDue, in_lp, in_al, RouteThere, Row, row1_mark, row1_fields, row1_route, row2, row3, row4_node, row4_span, row4_lightpath, row5, row6, row7, row8, row9, row10, Fault}
-use Rattle.book.specs.Inside.{tab}
-use Rattle.book.proofs.Readers.{Bytes, bytes_after, apart, fields_back, opened_back, opened_only, Right}
+use Rattle.book.proofs.Readers.{tab, Bytes, bytes_after, apart, fields_back, opened_back, opened_only, Right}
 use Rattle.book.proofs.Records.{hd_back, hd_only, nd_right, sp_right, lp_right, al_right}
 use Rattle.book.proofs.Format.{reading_back}
 use Rattle.book.proofs.Stands.{spent}

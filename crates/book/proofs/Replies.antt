@@ -1,78 +1,158 @@
--- The two ends of a reading: the head, whose counts the rest relies on, and EN with nothing after it; and the reply that is made of it.
+-- A reading from kind to kind: what is still to be read after each of them, and the reply that is made of a refusal or of the whole.
 -- A refusal's bytes are the book from its place on, so the place is what stands before them.
-use Prim.Native.Nat.{ℕ, ◌+◌, ◌-◌, ◌≤◌, ◌<◌}
-use mathlib.Core.Path.{◌≡◌}
-use mathlib.Core.List.{List, []}
-use mathlib.Core.Bool.{◌&&◌}
+use Prim.Native.Nat.{ℕ, ◌-◌, ◌≤◌}
+use mathlib.Core.Path.{◌≡◌, sym, ap, ◌∙◌}
+use mathlib.Core.List.{List, [], map}
+use mathlib.Core.Bool.{Bool, true, false}
 use native.Mathlib.Omega.{arith}
-use lib.ListN.{length, get_or, drop, length-drop, drop_of_length-le}
-use lib.Seq.{drop-cons, drop-drop}
-use lib.Dec.{leb}
-use borrow.Author.Tests.{leb-true}
+use lib.ListN.{length, drop, length-drop}
+use Rattle.std.specs.Prelude.{Ok, Err}
 use Rattle.book.specs.declared.Book.{Book}
-use Rattle.book.specs.declared.Reply.{Reply}
-use Rattle.book.specs.declared.Answer.TheVariants.{Good}
-use Rattle.book.specs.Reader.{Got, opened}
-use Rattle.book.specs.Book.{RouteBook}
-use Rattle.book.specs.Format.{EN, hd, book, reading}
+use Rattle.book.specs.declared.counts.Counts.{Counts}
+use Rattle.book.specs.declared.fill.Filled.{Filled}
+use Rattle.book.specs.declared.refusal.Fault.TheVariants.{NoStation}
+use Rattle.book.specs.declared.refusal.Refusal.{Refusal}
+use Rattle.book.specs.Reader.{Reader, ◌>>=◌, ◌>>◌, begun, need, each}
+use Rattle.book.specs.Book.{Span, Lightpath, RouteBook, some, ends_of, every, lightpath_fits}
+use Rattle.book.specs.Format.{hd, nd, sp, lp, al, book, reading}
 use Rattle.book.specs.Memory.{book_of, shown}
-use Rattle.book.specs.Inside.{tab, Numbered, Reached, Halted, HoldsBook, from_nodes, from_end, refused_reply}
-use Rattle.book.proofs.Tests.{and_inv}
-use Rattle.book.proofs.Records.{hd_only}
-use Rattle.book.proofs.Numbers.{on, off}
+use Rattle.book.specs.Inside.{Came, Halted, EndRead, Reached, counts_of, HoldsNodes, HoldsSpans, HoldsLightpaths, HoldsAll, partly, from_end}
+use Rattle.book.proofs.Faults.{fault_back}
+use Rattle.book.proofs.Steps.{halted_then}
+use Rattle.book.proofs.Readers.{Bytes}
+use Rattle.book.proofs.Stages.{NodesRead, SpansRead, LightpathsRead, nodes_read, spans_read, lightpaths_read, no_station, some_station}
 
--- EN
-module _ (s : List ℕ) (at : ℕ) (l : at ≤ length s) {no : ℕ} (n : Numbered no (opened EN 0) (drop at s) [] 2) (m : RouteBook) where
-  pub end_stop : (no ≡ 0 → ⊥) → Halted s (from_end m s (drop at s)) no at
-  end_stop h = record { is = rw (off n h (drop at s)); within = l }
+-- what is still to be read of a book, after each kind of record
+pub data Part : Type 0 where
+  at_nodes : (n x p a : ℕ) → Part
+  at_spans : (x p a : ℕ) → List Bool → Part
+  at_lightpaths : (p a : ℕ) → List Bool → List Span → Part
+  at_alternatives : (a : ℕ) → List Bool → List Span → List Lightpath → Part
+  at_end : RouteBook → Part
 
-  module _ (z : no ≡ 0) where
-    pub end_fits : at + 2 ≤ length s
-    end_fits = omega (arith, n.whole z, length-drop at s)
+-- its reader, which is that of `book`, cut there
+abbrev from_alternatives : ℕ → List Bool → List Span → List Lightpath → Reader RouteBook
+from_alternatives a ns sps lps = do
+  als ← each (al sps (map ends_of lps)) a []
+  from_end (partly ns sps lps als)
 
-    pub end_more : at + 2 < length s → Halted s (from_end m s (drop at s)) 9 (at + 2)
-    end_more h = record { is = rw (on n z (drop at s), drop-drop 2 at s, drop-cons s (at + 2) 0 h); within = end_fits }
+abbrev from_lightpaths : ℕ → ℕ → List Bool → List Span → Reader RouteBook
+from_lightpaths p a ns sps = do
+  lps ← each (λ before. lp ns sps) p []
+  from_alternatives a ns sps lps
 
-    pub end_good : length s ≤ at + 2 → {b : Book} → b ≡ book_of m → Reached s (from_end m s (drop at s)) HoldsBook (at + 2) b
-    end_good h e = record {
-      value = m;
-      is = rw (on n z (drop at s), drop-drop 2 at s, drop_of_length-le s {i = at + 2} h);
-      within = end_fits;
-      held = e;
-    }
+abbrev from_spans : ℕ → ℕ → ℕ → List Bool → Reader RouteBook
+from_spans x p a ns = do
+  sps ← each (λ before. sp (length ns)) x []
+  from_lightpaths p a ns sps
 
--- HD
-module _ (s : List ℕ) {no : ℕ} (n : Numbered no hd s (tab (λ i. get_or s (2 + i) 0) 4) 6) where
-  pub head_stop : (no ≡ 0 → ⊥) → refused_reply no 0 ≡ shown (reading s)
+abbrev from_nodes : ℕ → ℕ → ℕ → ℕ → Reader RouteBook
+from_nodes n x p a = do
+  ns ← each (λ before. nd) n []
+  begun (need (some ns) 10)
+  from_spans x p a ns
+
+abbrev pub from : Part → Reader RouteBook
+from (at_nodes n x p a) = from_nodes n x p a
+from (at_spans x p a ns) = from_spans x p a ns
+from (at_lightpaths p a ns sps) = from_lightpaths p a ns sps
+from (at_alternatives a ns sps lps) = from_alternatives a ns sps lps
+from (at_end m) = from_end m
+
+module _ (s : List ℕ) where
+  -- what is left of the whole book is q, from `at` on
+  pub record Left (q : Part) (at : ℕ) : Type 0 where
+    pub is : book s s ≡ from q s (drop at s)
+
+  -- a refusal of what is left is one of the whole
+  stopped : {q : Part} {at : ℕ} → Left q at → {r : Refusal} → Halted s (from q s (drop at s)) r → Err r ≡ shown (reading s)
+  unfolding reading
+  stopped l {r} h =
+      let z : length s - length (drop r.place s) ≡ r.place = omega (arith, length-drop r.place s, h.within) in
+      rw (l.is, h.is, z, fault_back r.fault)
+
+  module _ (k : Counts) where
+    -- after the ND records, the SP records and the LP records: what the book holds, and what is left
+    pub record NodesOn (f : Filled) : Type 0 where
+      pub read : NodesRead f.book
+      pub within : f.next ≤ length s
+      pub left : Left (at_spans k.spans k.lightpaths k.alternatives read.ns) f.next
+
+    pub record SpansOn (f : Filled) : Type 0 where
+      pub read : SpansRead f.book
+      pub within : f.next ≤ length s
+      pub left : Left (at_lightpaths k.lightpaths k.alternatives read.ns read.sps) f.next
+
+    pub record LightpathsOn (f : Filled) : Type 0 where
+      pub read : LightpathsRead f.book
+      pub within : f.next ≤ length s
+      pub left : Left (at_alternatives k.alternatives read.ns read.sps read.lps) f.next
+
+  pub head_stop : {r : Refusal} → Halted s (hd s s) r → Err r ≡ shown (reading s)
   unfolding reading book
-  head_stop h = let z : length s - length s ≡ 0 = omega arith in rw (off n h s, z)
+  head_stop {r} h =
+      let z : length s - length (drop r.place s) ≡ r.place = omega (arith, length-drop r.place s, h.within) in
+      rw (h.is, z, fault_back r.fault)
 
-  module _ (z : no ≡ 0) where
-    abbrev pub rest : Got RouteBook
-    rest = from_nodes (get_or s 2 0) (get_or s 3 0) (get_or s 4 0) (get_or s 5 0) s (drop 6 s)
+  module _ (bytes : Bytes s) (k : Counts) where
+    module _ (h : Came s (hd s s) (counts_of k) 6) where
+      headed : Left (at_nodes k.nodes k.spans k.lightpaths k.alternatives) 6
+      unfolding book
+      headed = record { is = rw h.is }
 
-    head_on : book s s ≡ rest
-    unfolding book
-    head_on = rw (on n z s)
+      pub nodes_stop : {r : Refusal} → Halted s (each (λ y. nd) k.nodes [] s (drop 6 s)) r → Err r ≡ shown (reading s)
+      nodes_stop n = stopped headed (halted_then _ n)
 
-    pub record Few : Type 0 where
-      pub nodes : get_or s 2 0 ≤ 64
-      pub spans : get_or s 3 0 ≤ 128
-      pub lightpaths : get_or s 4 0 ≤ 96
-      pub alternatives : get_or s 5 0 ≤ 56
+      module _ {f : Filled} (n : Reached s (each (λ y. nd) k.nodes [] s (drop 6 s)) HoldsNodes f) where
+        pub nodes_none : f.book.stations ≡ 0 → Err (record { fault = NoStation; place = f.next }) ≡ shown (reading s)
+        nodes_none e =
+            let z : some n.value ≡ false = no_station n.value (sym (ap (λ (y : Book). y.stations) n.held) ∙ e) in
+            stopped headed (record { is = rw (n.is, z); within = n.within })
 
-    pub head_few : Few
-    head_few =
-        let c4 = and_inv {a = leb 1 (get_or s 2 0) && leb (get_or s 2 0) 64 && leb (get_or s 3 0) 128 && leb (get_or s 4 0) 96} (hd_only s s (on n z s)).1 in
-        let c3 = and_inv {a = leb 1 (get_or s 2 0) && leb (get_or s 2 0) 64 && leb (get_or s 3 0) 128} c4.0 in
-        let c2 = and_inv {a = leb 1 (get_or s 2 0) && leb (get_or s 2 0) 64} c3.0 in
-        let c1 = and_inv {a = leb 1 (get_or s 2 0)} c2.0 in
-        record { nodes = leb-true _ _ c1.1; spans = leb-true _ _ c2.1; lightpaths = leb-true _ _ c3.1; alternatives = leb-true _ _ c4.1 }
+        pub nodes_on : (f.book.stations ≡ 0 → ⊥) → NodesOn k f
+        nodes_on e =
+            let z : some n.value ≡ true = some_station n.value (λ y. e (ap (λ (b : Book). b.stations) n.held ∙ y)) in
+            record { read = nodes_read s bytes 6 k.nodes k.few.0 n; within = n.within; left = record { is = headed.is ∙ rw (n.is, z) } }
 
-    pub reply_good : {at : ℕ} {b : Book} → Reached s rest HoldsBook at b → ◌≡◌ {A = Reply} (record { answer = Good; book = b }) (shown (reading s))
-    unfolding reading
-    reply_good r = rw (head_on, r.is, r.held)
+    module _ {f : Filled} (n : NodesOn k f) where
+      pub spans_stop : {r : Refusal} → ((ns : List Bool) → f.book ≡ book_of (partly ns [] [] []) → Halted s (each (λ y. sp (length ns)) k.spans [] s (drop f.next s)) r) → Err r ≡ shown (reading s)
+      spans_stop h = stopped n.left (halted_then _ (h n.read.ns n.read.is))
 
-    pub reply_bad : {m p : ℕ} → Halted s rest m p → refused_reply m p ≡ shown (reading s)
-    unfolding reading
-    reply_bad {m} {p} h = let z : length s - length (drop p s) ≡ p = omega (arith, length-drop p s, h.within) in rw (head_on, h.is, z)
+      pub spans_on : {g : Filled} → ((ns : List Bool) → f.book ≡ book_of (partly ns [] [] []) → Reached s (each (λ y. sp (length ns)) k.spans [] s (drop f.next s)) (HoldsSpans ns) g) → SpansOn k g
+      spans_on h =
+          let x = h n.read.ns n.read.is in
+          record { read = spans_read s bytes f.next k.spans n.read k.few.1 x; within = x.within; left = record { is = n.left.is ∙ rw x.is } }
+
+    module _ {f : Filled} (n : SpansOn k f) where
+      pub lightpaths_stop : {r : Refusal} → ((ns : List Bool) (sps : List Span) → f.book ≡ book_of (partly ns sps [] []) → Halted s (each (λ y. lp ns sps) k.lightpaths [] s (drop f.next s)) r)
+          → Err r ≡ shown (reading s)
+      lightpaths_stop h = stopped n.left (halted_then _ (h n.read.ns n.read.sps n.read.is))
+
+      pub lightpaths_on : {g : Filled} → ((ns : List Bool) (sps : List Span) → f.book ≡ book_of (partly ns sps [] []) → Reached s (each (λ y. lp ns sps) k.lightpaths [] s (drop f.next s)) (HoldsLightpaths ns sps) g)
+          → LightpathsOn k g
+      lightpaths_on h =
+          let x = h n.read.ns n.read.sps n.read.is in
+          record { read = lightpaths_read s bytes f.next k.lightpaths n.read k.few.2 x; within = x.within; left = record { is = n.left.is ∙ rw x.is } }
+
+    module _ {f : Filled} (n : LightpathsOn k f) where
+      pub alternatives_stop : {r : Refusal} → ((ns : List Bool) (sps : List Span) (lps : List Lightpath) → f.book ≡ book_of (partly ns sps lps []) → every (λ before. lightpath_fits ns sps) [] lps ≡ true
+          → Halted s (each (al sps (map ends_of lps)) k.alternatives [] s (drop f.next s)) r) → Err r ≡ shown (reading s)
+      alternatives_stop h = stopped n.left (halted_then _ (h n.read.ns n.read.sps n.read.lps n.read.is n.read.fit))
+
+      module _ {g : Filled} (h : (ns : List Bool) (sps : List Span) (lps : List Lightpath) → f.book ≡ book_of (partly ns sps lps []) → every (λ before. lightpath_fits ns sps) [] lps ≡ true
+          → Reached s (each (al sps (map ends_of lps)) k.alternatives [] s (drop f.next s)) (HoldsAll ns sps lps) g) where
+        last : Reached s (each (al n.read.sps (map ends_of n.read.lps)) k.alternatives [] s (drop f.next s)) (HoldsAll n.read.ns n.read.sps n.read.lps) g
+        last = h n.read.ns n.read.sps n.read.lps n.read.is n.read.fit
+
+        pub all_within : g.next ≤ length s
+        all_within = last.within
+
+        ended : Left (at_end (partly n.read.ns n.read.sps n.read.lps last.value)) g.next
+        ended = record { is = n.left.is ∙ rw last.is }
+
+        pub end_stop : {r : Refusal} → EndRead (Err r) s g.next → Err r ≡ shown (reading s)
+        end_stop e = stopped ended (e _)
+
+        pub whole : EndRead (Ok tt) s g.next → Ok g.book ≡ shown (reading s)
+        unfolding reading
+        whole e = rw (ended.is, e _) (ap (λ (b : Book). Ok b) last.held)

@@ -29,9 +29,6 @@ one_more f k rs r l e h c =
     ap (λ (x : List ℕ). set x k (f r)) c ∙ padded_set 152 k (map f rs) (f r) (length-map rs f ∙ e) h ∙ ap (padded 152) (sym (map-append f rs (r ∷ [])))
 
 module _ {rs : List (List ℕ)} {len route low high : List ℕ} (h : RowsIn rs len route low high) where
-  pub route_long : length rs ≤ 152 → length route ≡ 2432
-  route_long few = ap length h.is_route ∙ padded_long 2432 (rows 16 rs) (omega (arith, h.filled))
-
   pub row_more : (k : ℕ) (r : List ℕ) → length rs ≡ k → k < 152 → length r ≤ 16
       → RowsIn (rs ++ r ∷ []) (set len k (length r)) (paste route (16 * k) r (length r)) (set low k (span_word 0 r)) (set high k (span_word 1 r))
   row_more k r e l short =

@@ -1,44 +1,53 @@
--- From one kind of record to the next: a refusal of a part is one of the whole, and a part that is read hands on the rest.
--- What the next kind relies on, ends and lengths within bounds, follows from the records that fit.
+-- What is known of a book of which some kinds of records are read: they fit, as their reader says, so what the next kind relies on, ends and counts
+-- within bounds, holds of the arrays.
 use Prim.Native.Nat.{ℕ, zero, suc, ◌≤◌, ◌<◌}
-use mathlib.Core.Path.{◌≡◌, refl, sym, ap, ◌∙◌, subst}
-use mathlib.Core.List.{List, [], ◌∷◌, ◌++◌, map, append-nil}
+use mathlib.Core.Path.{◌≡◌, refl, sym, ◌∙◌, subst}
+use mathlib.Core.List.{List, [], ◌∷◌, map}
 use mathlib.Core.Bool.{Bool, true, false, ◌&&◌, false≢true}
 use native.Mathlib.Decide.{dec_lt}
 use native.Mathlib.Omega.{arith}
-use lib.ListN.{length, get_or, take, drop, length-map, take-append-drop, get_or-eq_default}
+use lib.ListN.{length, get_or, take, drop, take-append-drop, get_or-eq_default}
 use lib.Dec.{ltb}
 use borrow.Author.Tests.{ltb-true, lt-ltb}
 use Rattle.book.specs.declared.Book.{Book}
-use Rattle.book.specs.declared.Step.{Step}
-use Rattle.book.specs.declared.Step.TheVariants.{Next, Bad}
-use Rattle.book.specs.Reader.{Got, got, and_then, each}
+use Rattle.book.specs.declared.fill.Filled.{Filled}
+use Rattle.book.specs.Reader.{each}
 use Rattle.book.specs.Book.{Span, Lightpath, some, below, every, span_ends, span_fits, lightpath_ends, lightpath_fits}
 use Rattle.book.specs.Format.{nd, sp, lp}
 use Rattle.book.specs.Bits.{has, stations_into, station_set}
-use Rattle.book.specs.Memory.{padded, rows}
-use Rattle.book.specs.Inside.{Reached, Halted, Told, HoldsNodes, HoldsSpans, HoldsLightpaths, EndsLow, SpansHeld, LightpathsHeld, NodesRead, SpansRead, LightpathsRead}
+use Rattle.book.specs.Memory.{padded, book_of}
+use Rattle.book.specs.Inside.{Reached, HoldsNodes, HoldsSpans, HoldsLightpaths, SpansHeld, LightpathsHeld, partly}
 use Rattle.book.proofs.Tests.{and_inv, and_both}
 use Rattle.book.proofs.Readers.{Bytes, bytes_after, each_only}
 use Rattle.book.proofs.Records.{nd_right, sp_right, lp_right}
 use Rattle.book.proofs.Bits.{bit_of_zero}
 use Rattle.book.proofs.Stations.{station_has, ends_both}
-use Rattle.book.proofs.Padded.{padded_long}
-use Rattle.book.proofs.Lightpaths.{column_at, route_of, routes_filled}
+use Rattle.book.proofs.Lightpaths.{column_at}
 
--- a step, and the reading that goes on after it
-module _ {A B : Type 0} (s : List ℕ) (g : Got A) (k : A → List ℕ → Got B) (H : A → Book → Type 0) (J : B → Book → Type 0) (st : Step) (b : Book) where
-  pub told_off : {n p : ℕ} → st ≡ Bad n p → Told s g H st b → Told s (and_then g k) J st b
-  told_off {n} {p} e t =
-      let h : Halted s g n p = subst (λ (x : Step). Told s g H x b) e t in
-      subst (λ (x : Step). Told s (and_then g k) J x b) (sym e) (record { is = ap (λ (x : Got A). and_then x k) h.is; within = h.within })
+-- a book of which the nodes are read; the spans too; the lightpaths too
+pub record NodesRead (b : Book) : Type 0 where
+  pub ns : List Bool
+  pub is : b ≡ book_of (partly ns [] [] [])
+  pub few : length ns ≤ 64
 
-pub told_on : {A : Type 0} (s : List ℕ) (g : Got A) (H : A → Book → Type 0) (st : Step) (b : Book) {at : ℕ} → st ≡ Next at → Told s g H st b → Reached s g H at b
-told_on s g H st b e t = subst (λ (x : Step). Told s g H x b) e t
+pub record SpansRead (b : Book) : Type 0 where
+  pub ns : List Bool
+  pub sps : List Span
+  pub is : b ≡ book_of (partly ns sps [] [])
+  pub nodes_few : length ns ≤ 64
+  pub spans_few : length sps ≤ 128
+  pub fit : every (λ before. span_fits (length ns)) [] sps ≡ true
 
-pub told_then : {A B : Type 0} (s : List ℕ) (g : Got A) (k : A → List ℕ → Got B) (J : B → Book → Type 0) (st : Step) (b : Book) {a : A} {u : List ℕ} → g ≡ got a u
-    → Told s (k a u) J st b → Told s (and_then g k) J st b
-told_then {A} {B} s g k J st b e t = subst (λ (x : Got B). Told s x J st b) (sym (ap (λ (x : Got A). and_then x k) e)) t
+pub record LightpathsRead (b : Book) : Type 0 where
+  pub ns : List Bool
+  pub sps : List Span
+  pub lps : List Lightpath
+  pub is : b ≡ book_of (partly ns sps lps [])
+  pub nodes_few : length ns ≤ 64
+  pub spans_few : length sps ≤ 128
+  pub lightpaths_few : length lps ≤ 96
+  pub spans_fit : every (λ before. span_fits (length ns)) [] sps ≡ true
+  pub fit : every (λ before. lightpath_fits ns sps) [] lps ≡ true
 
 -- bytes
 pub bytes_drop : (n : ℕ) (s : List ℕ) → Bytes s → Bytes (drop n s)
@@ -84,60 +93,48 @@ path_low ns sps p h =
     (station_low ns p.ends.from c.0, station_low ns p.ends.to c.1)
 
 -- what the code relies on
-module _ (ns : List Bool) (sps : List Span) (few : length sps ≤ 128) (nodes : length ns ≤ 64) (h : every (λ b. span_fits (length ns)) [] sps ≡ true) where
-  ends_low : EndsLow (padded 128 (map (λ (x : Span). x.left) sps)) (padded 128 (map (λ (x : Span). x.right) sps))
-  ends_low = record {
-    left_long = padded_long 128 (map (λ (x : Span). x.left) sps) (omega (arith, length-map sps (λ (x : Span). x.left)));
-    right_long = padded_long 128 (map (λ (x : Span). x.right) sps) (omega (arith, length-map sps (λ (x : Span). x.right)));
-    left_low = column_low 128 64 (λ (x : Span). x.left) (span_fits (length ns)) (record { left = 0; right = 0; limit = 0 }) sps refl (omega arith) (λ x f. omega (arith, (span_low (length ns) x f).0)) h;
-    right_low = column_low 128 64 (λ (x : Span). x.right) (span_fits (length ns)) (record { left = 0; right = 0; limit = 0 }) sps refl (omega arith) (λ x f. omega (arith, (span_low (length ns) x f).1)) h;
-  }
+held : (ns : List Bool) (sps : List Span) (lps : List Lightpath) {b : Book} → b ≡ book_of (partly ns sps lps []) → length ns ≤ 64 → length sps ≤ 128
+    → every (λ b. span_fits (length ns)) [] sps ≡ true → SpansHeld b
+held ns sps lps e nodes few h =
+    rw e (record {
+      nodes_few = nodes;
+      spans_few = few;
+      left_low = column_low 128 64 (λ (x : Span). x.left) (span_fits (length ns)) (record { left = 0; right = 0; limit = 0 }) sps refl (omega arith) (λ x f. omega (arith, (span_low (length ns) x f).0)) h;
+      right_low = column_low 128 64 (λ (x : Span). x.right) (span_fits (length ns)) (record { left = 0; right = 0; limit = 0 }) sps refl (omega arith) (λ x f. omega (arith, (span_low (length ns) x f).1)) h;
+    })
 
 pub spans_held : {b : Book} → SpansRead b → SpansHeld b
-spans_held r = rw r.is (record { nodes_few = r.nodes_few; spans_few = r.spans_few; ends_low = ends_low r.ns r.sps r.spans_few r.nodes_few r.fit })
+spans_held r = held r.ns r.sps [] r.is r.nodes_few r.spans_few r.fit
 
 -- what stands past the end of a list of lightpaths
 abbrev nowhere : Lightpath
 nowhere = record { ends = record { from = 0; to = 0 }; route = record { spans = [] } }
 
 pub lightpaths_held : {b : Book} → LightpathsRead b → LightpathsHeld b
-lightpaths_held r =
-    let lps = r.lps in
-    let none : map route_of lps ++ [] ≡ map route_of lps = append-nil (map route_of lps) in
-    rw r.is (record {
-      spans_few = r.spans_few;
-      ends_low = ends_low r.ns r.sps r.spans_few r.nodes_few r.spans_fit;
-      lightpaths_few = r.lightpaths_few;
-      owners_low = record {
-        from_long = padded_long 96 (map (λ (p : Lightpath). p.ends.from) lps) (omega (arith, length-map lps (λ (p : Lightpath). p.ends.from), r.lightpaths_few));
-        to_long = padded_long 96 (map (λ (p : Lightpath). p.ends.to) lps) (omega (arith, length-map lps (λ (p : Lightpath). p.ends.to), r.lightpaths_few));
-        from_low = column_low 96 64 (λ (p : Lightpath). p.ends.from) (lightpath_fits r.ns r.sps) nowhere lps refl (omega arith) (λ p f. omega (arith, (path_low r.ns r.sps p f).0, r.nodes_few)) r.fit;
-        to_low = column_low 96 64 (λ (p : Lightpath). p.ends.to) (lightpath_fits r.ns r.sps) nowhere lps refl (omega arith) (λ p f. omega (arith, (path_low r.ns r.sps p f).1, r.nodes_few)) r.fit;
-      };
-      route_long = rw none (padded_long 2432 (rows 16 (map route_of lps)) (omega (arith, routes_filled r.ns r.sps [] lps r.fit, r.lightpaths_few)));
-    })
+lightpaths_held r = record {
+  spans = held r.ns r.sps r.lps r.is r.nodes_few r.spans_few r.spans_fit;
+  lightpaths_few = rw r.is r.lightpaths_few;
+  from_low = rw r.is (column_low 96 64 (λ (p : Lightpath). p.ends.from) (lightpath_fits r.ns r.sps) nowhere r.lps refl (omega arith) (λ p f. omega (arith, (path_low r.ns r.sps p f).0, r.nodes_few)) r.fit);
+  to_low = rw r.is (column_low 96 64 (λ (p : Lightpath). p.ends.to) (lightpath_fits r.ns r.sps) nowhere r.lps refl (omega arith) (λ p f. omega (arith, (path_low r.ns r.sps p f).1, r.nodes_few)) r.fit);
+}
 
 -- what was read, kind by kind
 module _ (s : List ℕ) (bytes : Bytes s) (start m : ℕ) where
-  abbrev pub nodes_read : {at : ℕ} {b : Book} → m ≤ 64 → Reached s (each (λ x. nd) m [] s (drop start s)) HoldsNodes at b → NodesRead b
+  abbrev pub nodes_read : {f : Filled} → m ≤ 64 → Reached s (each (λ x. nd) m [] s (drop start s)) HoldsNodes f → NodesRead f.book
   nodes_read few r =
       let o = each_only (λ x. nd_right) m [] s (drop start s) (bytes_drop start s bytes) r.is in
       record { ns = r.value; is = r.held; few = omega (arith, o.1) }
 
-  abbrev pub spans_read : {at : ℕ} {b c : Book} (n : NodesRead b) → m ≤ 128 → Reached s (each (λ x. sp (length n.ns)) m [] s (drop start s)) (HoldsSpans n.ns) at c → SpansRead c
+  abbrev pub spans_read : {b : Book} {f : Filled} (n : NodesRead b) → m ≤ 128 → Reached s (each (λ x. sp (length n.ns)) m [] s (drop start s)) (HoldsSpans n.ns) f → SpansRead f.book
   spans_read n few r =
       let o = each_only (λ x. sp_right (length n.ns)) m [] s (drop start s) (bytes_drop start s bytes) r.is in
       record { ns = n.ns; sps = r.value; is = r.held; nodes_few = n.few; spans_few = omega (arith, o.1); fit = o.2 }
 
-  abbrev pub lightpaths_read : {at : ℕ} {b c : Book} (n : SpansRead b) → m ≤ 96
-      → Reached s (each (λ x. lp n.ns n.sps) m [] s (drop start s)) (HoldsLightpaths n.ns n.sps) at c → LightpathsRead c
+  abbrev pub lightpaths_read : {b : Book} {f : Filled} (n : SpansRead b) → m ≤ 96
+      → Reached s (each (λ x. lp n.ns n.sps) m [] s (drop start s)) (HoldsLightpaths n.ns n.sps) f → LightpathsRead f.book
   lightpaths_read n few r =
       let o = each_only (λ x. lp_right n.ns n.sps) m [] s (drop start s) (bytes_drop start s bytes) r.is in
       record { ns = n.ns; sps = n.sps; lps = r.value; is = r.held; nodes_few = n.nodes_few; spans_few = n.spans_few; lightpaths_few = omega (arith, o.1); spans_fit = n.fit; fit = o.2 }
-
-  pub lightpaths_fit : (ns : List Bool) (sps : List Span) {lps : List Lightpath} {u : List ℕ} → each (λ x. lp ns sps) m [] s (drop start s) ≡ got lps u
-      → every (λ x. lightpath_fits ns sps) [] lps ≡ true
-  lightpaths_fit ns sps e = (each_only (λ x. lp_right ns sps) m [] s (drop start s) (bytes_drop start s bytes) e).2
 
 -- the set of stations is empty exactly if no node is a station
 pub found : (ns : List Bool) → some ns ≡ true → (i : ℕ) × (get_or ns i false ≡ true)

@@ -8,8 +8,8 @@ use native.Mathlib.Decide.{dec_lt, ℕ_discrete}
 use native.Mathlib.Nat.{add-zero, suc-add, add-suc}
 use native.Mathlib.Omega.{arith}
 use lib.ListN.{length, get_or, get_or-eq_default}
-use lib.Dec.{eqb, ltb}
-use borrow.Author.Tests.{lt-ltb, le-ltb, ltb-true}
+use lib.Dec.{eqb}
+use borrow.Author.Tests.{lt-ltb, le-ltb}
 use Rattle.book.specs.Bits.{has, put, put_if, stations_into, station_set}
 use Rattle.book.specs.Book.{Ends, lightpath_ends}
 use Rattle.book.specs.Inside.{ends_fit}
@@ -93,9 +93,3 @@ ends_same ns e = go (dec_lt e.from (length ns)) (dec_lt e.to (length ns))
     go (yes a) (no b) =
         rw (lt-ltb e.from (length ns) a, le-ltb e.to (length ns) (omega arith), get_or-eq_default ns false {n = e.to} (omega arith), and_none (get_or ns e.from false))
     go (no a) b = rw (le-ltb e.from (length ns) (omega arith), get_or-eq_default ns false {n = e.from} (omega arith))
-
-pub ends_low : (nodes stations a b : ℕ) → ends_fit nodes stations a b ≡ true → (a < nodes) × (b < nodes)
-ends_low nodes stations a b h =
-    let x = and_inv {a = ltb a nodes} h in
-    let y = and_inv {a = ltb b nodes} x.1 in
-    (ltb-true a nodes x.0, ltb-true b nodes y.0)

@@ -4,12 +4,11 @@ use Prim.Native.Nat.{ℕ, suc, ◌+◌, ◌-◌, ◌≤◌, ◌<◌, zero-le}
 use mathlib.Core.Path.{◌≡◌, refl, sym, ap, ◌∙◌}
 use mathlib.Core.List.{List, [], ◌∷◌, map, map-append, reverse_aux, reverse, reverse-cons}
 use native.Mathlib.Omega.{arith}
-use lib.ListN.{length, drop, set, length-drop, length-map, length-reverse}
-use lib.Seq.{drop-drop}
+use lib.ListN.{length, drop, set, length-map, length-reverse}
 use Rattle.book.specs.Reader.{Got, got, bad, Reader, and_then, each}
 use Rattle.book.specs.Memory.{padded}
-use Rattle.book.specs.Inside.{NumberedAt}
-use Rattle.book.proofs.Numbers.{placed_on, placed_off}
+use Rattle.book.specs.declared.refusal.Refusal.{Refusal}
+use Rattle.book.specs.Inside.{Came, Halted}
 use Rattle.book.proofs.Padded.{padded_set}
 
 -- those read before, the last first, put in front of what is read after them
@@ -41,26 +40,22 @@ module _ {A : Type 0} (r : List A → Reader A) (s : List ℕ) (start m : ℕ) w
     left = onto_none (each r m [] s (drop start s)) ∙ ap (λ (i : ℕ). onto [] (each r i [] s (drop start s))) (omega arith);
   }
 
-  module _ {k at : ℕ} {before : List A} (now : Turned k at before) (l : k < m) {no i : ℕ} {a : A} {t : ℕ} (n : NumberedAt no i (r before) (drop at s) a t) where
+  module _ {k at : ℕ} {before : List A} (now : Turned k at before) (l : k < m) where
     one_left : m - k ≡ suc (m - (k + 1))
     one_left = omega arith
 
-    pub turned_stop : (no ≡ 0 → ⊥) → each r m [] s (drop start s) ≡ bad no (drop i (drop at s))
+    pub turned_stop : {x : Refusal} → Halted s (r before (drop at s) (drop at s)) x → Halted s (each r m [] s (drop start s)) x
     unfolding each
-    turned_stop h = now.left ∙ rw (one_left, placed_off n h)
+    turned_stop h = record { is = now.left ∙ rw (one_left, h.is); within = h.within }
 
-    module _ (z : no ≡ 0) where
-      pub turned_fits : at + t ≤ length s
-      turned_fits = omega (arith, n.whole z, length-drop at s, now.within)
-
-      pub turned_next : Turned (k + 1) (at + t) (a ∷ before)
-      unfolding each
-      turned_next = record {
-        few = omega arith;
-        within = turned_fits;
-        counted = omega (arith, now.counted);
-        left = now.left ∙ rw (one_left, placed_on n z, drop-drop t at s) (onto_more a before (each r (m - (k + 1)) (a ∷ before) s (drop (at + t) s)));
-      }
+    pub turned_next : {a : A} {next : ℕ} → Came s (r before (drop at s) (drop at s)) a next → Turned (k + 1) next (a ∷ before)
+    unfolding each
+    turned_next {a} {next} h = record {
+      few = omega arith;
+      within = h.within;
+      counted = omega (arith, now.counted);
+      left = now.left ∙ rw (one_left, h.is) (onto_more a before (each r (m - (k + 1)) (a ∷ before) s (drop next s)));
+    }
 
   pub turned_done : {k at : ℕ} {before : List A} → Turned k at before → m ≤ k → each r m [] s (drop start s) ≡ got (reverse before) (drop at s)
   unfolding each

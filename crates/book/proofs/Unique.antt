@@ -7,26 +7,28 @@ use lib.ListN.{length}
 use mathlib.Core.Logic.{◌⊎◌, inl, inr}
 use mathlib.Core.Bool.{true}
 use native.Mathlib.Omega.{arith}
-use Rattle.book.specs.declared.Reply.{Reply}
-use Rattle.book.specs.declared.write.Written.{Written}
+use Rattle.std.specs.Prelude.{Result, Ok, Err}
+use Rattle.book.specs.declared.Book.{Book}
+use Rattle.book.specs.declared.refusal.Refusal.{Refusal}
 use Rattle.book.specs.Book.{RouteBook, well_formed}
 use Rattle.book.specs.Format.{encode, Reading, good, refused, reading}
 use Rattle.book.specs.Refusal.{Due, Row, row1_mark, row1_fields, row1_route, row2, row3, row4_node, row4_span, row4_lightpath, row5, row6, row7, row8, row9, row10, Fault}
-use Rattle.book.specs.Memory.{book_of, empty_book, number_of, place_of, shown}
+use Rattle.book.specs.Memory.{book_of, refusal, number_of, place_of, shown}
 use Rattle.book.specs.Writing.{writing, written_of, buffer}
 use Rattle.book.proofs.Readers.{Bytes}
 use Rattle.book.proofs.Format.{reading_back, reading_only}
 use Rattle.book.proofs.Refusals.{refused_fault}
+use Rattle.book.proofs.Tabled.{refused_number}
 
 -- no second answer meets a contract that is an equation with a function of the input: so of `read`, and of every operation on choices
 pub one_answer : {A : Type 0} (told r q : A) → r ≡ told → q ≡ told → r ≡ q
 one_answer told r q e f = e ∙ sym f
 
-pub one_reply : (b : List ℕ) (r q : Reply) → r ≡ shown (reading b) → q ≡ shown (reading b) → r ≡ q
+pub one_reply : (b : List ℕ) (r q : Result Book Refusal) → r ≡ shown (reading b) → q ≡ shown (reading b) → r ≡ q
 one_reply b r q = one_answer (shown (reading b)) r q
 
 -- nor that of `write`, which speaks of the answer and of the whole buffer
-pub one_writing : (b : List ℕ) (n : ℕ) (out : List ℕ) (r q : Written) (x y : List ℕ) → (r ≡ written_of (writing b n (length out))) × (x ≡ buffer (writing b n (length out)) out)
+pub one_writing : (b : List ℕ) (n : ℕ) (out : List ℕ) (r q : Result ℕ Refusal) (x y : List ℕ) → (r ≡ written_of (writing b n (length out))) × (x ≡ buffer (writing b n (length out)) out)
     → (q ≡ written_of (writing b n (length out))) × (y ≡ buffer (writing b n (length out)) out) → (r ≡ q) × (x ≡ y)
 one_writing b n out r q x y e f = (one_answer (written_of (writing b n (length out))) r q e.0 f.0, one_answer (buffer (writing b n (length out)) out) x y e.1 f.1)
 
@@ -75,24 +77,26 @@ refused_within b n p h e =
     let r = row_number f.row in
     (r.0, r.1, omega (arith, f.place))
 
--- so the answer's number is 0 exactly for a good book, which the struct then holds; and else the struct is all noughts
-pub record Served (b : List ℕ) (r : Reply) : Type 0 where
+-- so the answer's number is 0 exactly for a good book, which the struct then holds; and else the answer is the refusal, with no book
+pub record Served (b : List ℕ) (r : Result Book Refusal) : Type 0 where
   pub book : RouteBook
   pub fits : well_formed book ≡ true
   pub written : encode book ≡ b
-  pub held : r.book ≡ book_of book
+  pub held : r ≡ Ok (book_of book)
 
-pub number_good : (b : List ℕ) (r : Reply) → Bytes b → r ≡ shown (reading b) → number_of r.answer ≡ 0 → Served b r
+pub number_good : (b : List ℕ) (r : Result Book Refusal) → Bytes b → r ≡ shown (reading b) → number_of r ≡ 0 → Served b r
 number_good b r h e z = go (reading b) refl e
   where
     go : (g : Reading) → reading b ≡ g → r ≡ shown g → Served b r
-    go (good m) q w = let o = reading_only b m h q in record { book = m; fits = o.1; written = o.0; held = ap (λ (x : Reply). x.book) w }
-    go (refused n p) q w = absurd (omega (arith, ap (λ (x : Reply). number_of x.answer) w, (refused_within b n p h q).0))
+    go (good m) q w = let o = reading_only b m h q in record { book = m; fits = o.1; written = o.0; held = w }
+    go (refused n p) q w = absurd (omega (arith, z, ap number_of w, refused_number b q, (refused_within b n p h q).0))
 
-pub number_bad : (b : List ℕ) (r : Reply) → Bytes b → r ≡ shown (reading b) → (number_of r.answer ≡ 0 → ⊥)
-    → Fault b (number_of r.answer) (place_of r.answer) × (r.book ≡ book_of empty_book)
+pub number_bad : (b : List ℕ) (r : Result Book Refusal) → Bytes b → r ≡ shown (reading b) → (number_of r ≡ 0 → ⊥)
+    → Fault b (number_of r) (place_of r) × (r ≡ Err (refusal (number_of r) (place_of r)))
 number_bad b r h e z = go (reading b) refl e
   where
-    go : (g : Reading) → reading b ≡ g → r ≡ shown g → Fault b (number_of r.answer) (place_of r.answer) × (r.book ≡ book_of empty_book)
-    go (good m) q w = absurd (z (ap (λ (x : Reply). number_of x.answer) w))
-    go (refused n p) q w = (rw w (refused_fault b n p h q), ap (λ (x : Reply). x.book) w)
+    go : (g : Reading) → reading b ≡ g → r ≡ shown g → Fault b (number_of r) (place_of r) × (r ≡ Err (refusal (number_of r) (place_of r)))
+    go (good m) q w = absurd (z (ap number_of w))
+    go (refused n p) q w =
+        let k = refused_number b q in
+        rw (w, k) (refused_fault b n p h q, refl)

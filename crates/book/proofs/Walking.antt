@@ -3,22 +3,21 @@
 use Prim.Native.Nat.{ℕ, zero, suc, ◌+◌, ◌≤◌, ◌<◌}
 use mathlib.Core.Path.{◌≡◌, refl, sym, ap, ◌∙◌, subst}
 use mathlib.Core.List.{List, [], ◌∷◌}
-use mathlib.Core.Bool.{Bool, true, false, cond, ◌||◌}
+use mathlib.Core.Bool.{Bool, true, false, cond, not, ◌||◌, ◌&&◌}
 use native.Mathlib.Decide.{ℕ_discrete}
 use native.Mathlib.Numerals.{add-one}
 use native.Mathlib.Omega.{arith}
 use lib.ListN.{length, get_or, drop, drop_of_length-le}
 use lib.Seq.{drop-cons, drop-drop}
-use lib.Dec.{eqb, ltb}
-use borrow.Author.Tests.{eq-eqb, ne_eqb, lt-ltb, le-ltb, ltb-true}
-use Rattle.book.specs.declared.walk.Hop.{Hop}
-use Rattle.book.specs.declared.walk.Hop.TheVariants.{To, Off}
-use Rattle.book.specs.declared.walk.Amiss.{Amiss}
-use Rattle.book.specs.declared.walk.Amiss.TheVariants.{Nowhere, At}
+use lib.Dec.{eqb, ltb, leb}
+use borrow.Author.Tests.{eq-eqb, ne_eqb, lt-ltb, le-ltb, ltb-true, ltb-false, leb-true, leb-false}
+use Rattle.std.specs.Prelude.{Option, Some, None, position, nat_lt}
+use Rattle.std.specs.List.{position_or_len}
+use Rattle.std.proofs.lemmas.List.Quantifiers.{position-Some}
 use Rattle.book.specs.Bits.{bit, has, put}
 use Rattle.book.specs.Book.{Span, among, below, span_at, far, walks}
 use Rattle.book.specs.Format.{from_high, from_stray}
-use Rattle.book.specs.Inside.{EndsLow, far_in, goes_in, stray_in, hop_of}
+use Rattle.book.specs.Inside.{far_in, goes_in, stray_in, hop_of}
 use Rattle.book.proofs.Tests.{and_inv, and_both}
 use Rattle.book.proofs.Bits.{put_same, put_other, bit_of_zero}
 use Rattle.book.proofs.Strays.{goes, walk_passes, from_passes, walk_stops, from_stops}
@@ -27,11 +26,11 @@ use Rattle.book.proofs.Strays.{goes, walk_passes, from_passes, walk_stops, from_
 pub route_cons : (r : List ℕ) (j : ℕ) → j < length r → drop j r ≡ get_or r j 0 ∷ drop (j + 1) r
 route_cons r j l = drop-cons r j 0 l ∙ rw add-one
 
-hop_to : (t : Bool) (f q : ℕ) → cond t (To f) Off ≡ To q → (t ≡ true) × (f ≡ q)
+hop_to : (t : Bool) (f q : ℕ) → cond t (Some f) None ≡ Some q → (t ≡ true) × (f ≡ q)
 hop_to true f q e = (refl, cc)
 hop_to false f q e = (cc, cc)
 
-hop_off : (t : Bool) (f : ℕ) → cond t (To f) Off ≡ Off → t ≡ false
+hop_off : (t : Bool) (f : ℕ) → cond t (Some f) None ≡ None → t ≡ false
 hop_off true f e = cc
 hop_off false f e = refl
 
@@ -40,21 +39,21 @@ one_low true a b n p q = q
 one_low false a b n p q = p
 
 -- one step of the walk, by the answer of `step_over`
-module _ (left right : List ℕ) (met p x : ℕ) (r : Hop) (e : r ≡ hop_of left right met p x) where
-  pub walk_on : (last j q : ℕ) (xs : List ℕ) (t : ℕ) → r ≡ To q → stray_in left right met p last j (x ∷ xs) t ≡ stray_in left right (put met q) q j (j + 1) xs t
+module _ (left right : List ℕ) (met p x : ℕ) (r : Option ℕ) (e : r ≡ hop_of left right met p x) where
+  pub walk_on : (last j q : ℕ) (xs : List ℕ) (t : ℕ) → r ≡ Some q → stray_in left right met p last j (x ∷ xs) t ≡ stray_in left right (put met q) q j (j + 1) xs t
   unfolding stray_in
   walk_on last j q xs t h = let z = hop_to (goes_in left right met p x) (far_in left right p x) q (sym e ∙ h) in rw (z.0, z.1)
 
-  pub walk_off : (last j : ℕ) (xs : List ℕ) (t : ℕ) → r ≡ Off → stray_in left right met p last j (x ∷ xs) t ≡ At j
+  pub walk_off : (last j : ℕ) (xs : List ℕ) (t : ℕ) → r ≡ None → stray_in left right met p last j (x ∷ xs) t ≡ Some j
   unfolding stray_in
   walk_off last j xs t h = rw (hop_off (goes_in left right met p x) (far_in left right p x) (sym e ∙ h))
 
-  pub hop_low : (q : ℕ) → EndsLow left right → r ≡ To q → q < 64
-  hop_low q low h =
+  pub hop_low : (q : ℕ) → ((i : ℕ) → get_or left i 0 < 64) → ((i : ℕ) → get_or right i 0 < 64) → r ≡ Some q → q < 64
+  hop_low q left_low right_low h =
       let z = hop_to (goes_in left right met p x) (far_in left right p x) q (sym e ∙ h) in
-      subst (λ (k : ℕ). k < 64) z.1 (one_low (eqb (get_or left x 0) p) _ _ 64 (low.left_low x) (low.right_low x))
+      subst (λ (k : ℕ). k < 64) z.1 (one_low (eqb (get_or left x 0) p) _ _ 64 (left_low x) (right_low x))
 
-pub walk_end : (left right : List ℕ) (met p last : ℕ) (r : List ℕ) (j t : ℕ) → length r ≤ j → stray_in left right met p last j (drop j r) t ≡ cond (eqb p t) Nowhere (At last)
+pub walk_end : (left right : List ℕ) (met p last : ℕ) (r : List ℕ) (j t : ℕ) → length r ≤ j → stray_in left right met p last j (drop j r) t ≡ cond (eqb p t) None (Some last)
 unfolding stray_in
 walk_end left right met p last r j t l = rw (drop_of_length-le r {i = j} l)
 
@@ -95,6 +94,41 @@ pub high_stop : (n : ℕ) (r : List ℕ) (j : ℕ) → j < length r → n ≤ ge
 unfolding from_high
 high_stop n r j l h = rw (route_cons r j l, le-ltb (get_or r j 0) n h)
 
+-- where a number of a route is too high: at the first that is not below n
+abbrev pub HighAt : ℕ → List ℕ → Option ℕ → Type 0
+HighAt n r None = below n r ≡ true
+HighAt n r (Some i) = (below n r ≡ false) × (drop i r ≡ from_high n r) × (i ≤ length r)
+
+-- past i numbers that are below n
+low_until : (n : ℕ) (r : List ℕ) (i : ℕ) → i ≤ length r → ((k : ℕ) → k < i → leb n (get_or r k 0) ≡ false) → (below n r ≡ below n (drop i r)) × (from_high n r ≡ from_high n (drop i r))
+low_until n r zero l h = (refl, refl)
+low_until n r (suc i) l h =
+    let p = low_until n r i (omega arith) (λ k m. h k (omega arith)) in
+    let m = leb-false n (get_or r i 0) (h i (omega arith)) in
+    rw (← add-one i) (p.0 ∙ below_more n r i (omega arith) m, p.1 ∙ high_more n r i (omega arith) m)
+
+all_low : (n : ℕ) (r : List ℕ) → length r ≤ position_or_len (leb n) r → below n r ≡ true
+unfolding below
+all_low n [] h = refl
+all_low n (x ∷ r) h = go (leb n x) refl h (all_low n r)
+  where
+    go : (t : Bool) → leb n x ≡ t → suc (length r) ≤ cond (not t) (1 + position_or_len (leb n) r) 0 → (length r ≤ position_or_len (leb n) r → below n r ≡ true) → (ltb x n && below n r) ≡ true
+    go true e l rest = absurd (omega arith)
+    go false e l rest = and_both (lt-ltb x n (leb-false n x e)) (rest (omega arith))
+
+pub high_at : (n : ℕ) (r : List ℕ) (a : Option ℕ) → a ≡ position (leb n) r → HighAt n r a
+high_at n r None e = go (nat_lt (position_or_len (leb n) r) (length r)) refl e
+  where
+    go : (t : Bool) → nat_lt (position_or_len (leb n) r) (length r) ≡ t → None ≡ cond t (Some (position_or_len (leb n) r)) None → below n r ≡ true
+    go true p q = absurd (cc)
+    go false p q = all_low n r (ltb-false _ _ p)
+high_at n r (Some i) e =
+    let p = position-Some (leb n) r i 0 (sym e) in
+    let l : i ≤ length r = omega (arith, p.0) in
+    let u = low_until n r i l p.2 in
+    let m = leb-true n (get_or r i 0) p.1 in
+    (u.0 ∙ below_stop n r i p.0 m, sym (u.1 ∙ high_stop n r i p.0 m), l)
+
 -- a set of the nodes met, and the list of them
 abbrev Same : ℕ → List ℕ → Type 0
 Same x met = (i : ℕ) → among i met ≡ has x i
@@ -108,17 +142,17 @@ put_met x q met h i = go (ℕ_discrete i q)
     go (no n) = rw (ne_eqb i q n, put_other x q i n) (h i)
 
 -- what an answer says of the walk over r, which is what is left of the whole route
-abbrev pub StrayAt : List Span → List ℕ → List ℕ → ℕ → ℕ → List ℕ → Amiss → Type 0
-StrayAt sps whole met p t r Nowhere = walks sps met p r t ≡ true
-StrayAt sps whole met p t r (At i) = (walks sps met p r t ≡ false) × (drop i whole ≡ from_stray sps met p r)
+abbrev pub StrayAt : List Span → List ℕ → List ℕ → ℕ → ℕ → List ℕ → Option ℕ → Type 0
+StrayAt sps whole met p t r None = walks sps met p r t ≡ true
+StrayAt sps whole met p t r (Some i) = (walks sps met p r t ≡ false) × (drop i whole ≡ from_stray sps met p r)
 
 module _ (sps : List Span) (left right : List ℕ) (is_left : (x : ℕ) → get_or left x 0 ≡ (span_at sps x).left) (is_right : (x : ℕ) → get_or right x 0 ≡ (span_at sps x).right)
     (whole : List ℕ) (t : ℕ) where
   -- past a span that the walk passes
   passed : (met : List ℕ) (p x : ℕ) (xs : List ℕ) → goes sps met p x ≡ true → 1 ≤ length xs
-      → (a : Amiss) → StrayAt sps whole (far (span_at sps x) p ∷ met) (far (span_at sps x) p) t xs a → StrayAt sps whole met p t (x ∷ xs) a
-  passed met p x xs g n Nowhere h = walk_passes sps met p x g xs t ∙ h
-  passed met p x xs g n (At i) h = (walk_passes sps met p x g xs t ∙ h.0, h.1 ∙ sym (from_passes sps met p x g xs n))
+      → (a : Option ℕ) → StrayAt sps whole (far (span_at sps x) p ∷ met) (far (span_at sps x) p) t xs a → StrayAt sps whole met p t (x ∷ xs) a
+  passed met p x xs g n None h = walk_passes sps met p x g xs t ∙ h
+  passed met p x xs g n (Some i) h = (walk_passes sps met p x g xs t ∙ h.0, h.1 ∙ sym (from_passes sps met p x g xs n))
 
   -- one span: the walk fails at it, or goes on as it does after it
   turn : (x : ℕ) (xs met : List ℕ) (m p last j : ℕ) → Same m met → drop j whole ≡ x ∷ xs
@@ -127,7 +161,7 @@ module _ (sps : List Span) (left right : List ℕ) (is_left : (x : ℕ) → get_
   unfolding stray_in
   turn x xs met m p last j h e on = rw (is_left x, is_right x, ← h (far (span_at sps x) p)) (go (goes sps met p x) refl)
     where
-      go : (u : Bool) → goes sps met p x ≡ u → StrayAt sps whole met p t (x ∷ xs) (cond u (stray_in left right (put m (far (span_at sps x) p)) (far (span_at sps x) p) j (j + 1) xs t) (At j))
+      go : (u : Bool) → goes sps met p x ≡ u → StrayAt sps whole met p t (x ∷ xs) (cond u (stray_in left right (put m (far (span_at sps x) p)) (far (span_at sps x) p) j (j + 1) xs t) (Some j))
       go true g = on g
       go false g = (walk_stops sps met p x g xs t, e ∙ sym (from_stops sps met p x g xs))
 
@@ -135,7 +169,7 @@ module _ (sps : List Span) (left right : List ℕ) (is_left : (x : ℕ) → get_
   unfolding stray_in walks from_stray
   stray_same x [] met m p last j h e = turn x [] met m p last j h e (λ g. go g (eqb (far (span_at sps x) p) t) refl)
     where
-      go : goes sps met p x ≡ true → (u : Bool) → eqb (far (span_at sps x) p) t ≡ u → StrayAt sps whole met p t (x ∷ []) (cond u Nowhere (At j))
+      go : goes sps met p x ≡ true → (u : Bool) → eqb (far (span_at sps x) p) t ≡ u → StrayAt sps whole met p t (x ∷ []) (cond u None (Some j))
       go g true f = walk_passes sps met p x g [] t ∙ f
       go g false f = (walk_passes sps met p x g [] t ∙ f, e)
   stray_same x (y ∷ ys) met m p last j h e =

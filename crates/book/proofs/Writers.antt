@@ -1,26 +1,25 @@
 -- The loops over the lightpaths of a book in memory: those left to write end where all of them end, and complete what is written so far.
 -- So after the last turn the LP records are laid out whole, and as long as the first loop counted.
-use Prim.Native.Nat.{ℕ, ◌+◌, ◌*◌, ◌≤◌, ◌<◌}
+use Prim.Native.Nat.{ℕ, zero, suc, ◌+◌, ◌-◌, ◌*◌, ◌≤◌, ◌<◌}
 use mathlib.Core.Path.{◌≡◌, refl, sym, ap, ◌∙◌, subst}
-use mathlib.Core.List.{List, [], ◌∷◌, ◌++◌, map}
+use mathlib.Core.List.{List, [], ◌∷◌, ◌++◌, map, map-append, append-nil, append_assoc}
 use mathlib.Core.Bool.{true}
 use native.Mathlib.Omega.{arith}
-use native.Mathlib.Numerals.{add-one}
-use lib.ListN.{length, get_or, take, drop, length-map, length-append, drop_of_length-le, get_or-append, get_or-map}
-use lib.Seq.{drop-cons}
+use lib.ListN.{length, get_or, take, drop, replicate, length-map, length-append, get_or-append, get_or-map}
+use lib.Seq.{take_all, take_at}
 use Rattle.book.specs.declared.Book.{Book}
 use Rattle.book.specs.Book.{Lightpath, RouteBook, well_formed}
 use Rattle.book.specs.Format.{LP, record_bytes, bytes_of, lp_bytes}
-use Rattle.book.specs.Memory.{routes_of, book_of, laid}
+use Rattle.book.specs.Memory.{padded, routes_of, book_of, laid}
 use Rattle.book.specs.Choice.{no_route, lightpath_at}
-use Rattle.book.specs.Inside.{Held, Room}
-use Rattle.book.proofs.Parts.{parts}
-use Rattle.book.proofs.Stands.{lp_width}
+use Rattle.book.specs.Inside.{Held, lightpaths_len}
+use Rattle.std.specs.List.{sum_by}
+use Rattle.std.proofs.lemmas.List.Sums.{sum_by-cons}
 use Rattle.book.proofs.Bounds.{counts}
-use Rattle.book.proofs.Longest.{widths, routes_short}
+use Rattle.book.proofs.Longest.{routes_short}
 use Rattle.book.proofs.Rows.{row_held, rows_held}
 use Rattle.book.proofs.Lightpaths.{column_at, route_of, alt_route}
-use Rattle.book.proofs.Laid.{laid_none, laid_long, laid_then}
+use Rattle.book.proofs.Laid.{laid_none, laid_then}
 
 abbrev pub no_lightpath : Lightpath
 no_lightpath = record { ends = record { from = 0; to = 0 }; route = no_route }
@@ -46,14 +45,6 @@ module _ (m : RouteBook) where
     pub len_here : get_or (book_of m).len k 0 ≡ length (path k).route.spans
     len_here = column_at 152 (λ (r : List ℕ). length r) (routes_of m.lightpaths m.alternatives) [] refl k ∙ ap length route_here
 
-    -- its record is the first of those left
-    bytes_left : bytes_of lp_bytes (drop k m.lightpaths) ≡ lp_bytes (path k) ++ bytes_of lp_bytes (drop (k + 1) m.lightpaths)
-    unfolding bytes_of
-    bytes_left = rw (add-one k, drop-cons m.lightpaths k no_lightpath l)
-
-    long_left : length (bytes_of lp_bytes (drop k m.lightpaths)) ≡ 5 + get_or (book_of m).len k 0 + length (bytes_of lp_bytes (drop (k + 1) m.lightpaths))
-    long_left = ap length bytes_left ∙ omega (arith, length-append (lp_bytes (path k)) (bytes_of lp_bytes (drop (k + 1) m.lightpaths)), len_here)
-
   module _ (fits : well_formed m ≡ true) where
     short_here : (k : ℕ) → k < length m.lightpaths → length (path k).route.spans ≤ 16
     short_here k l = subst (λ (r : List ℕ). length r ≤ 16) (route_here k l) (routes_short m fits k)
@@ -71,9 +62,46 @@ module _ (m : RouteBook) where
         let to : get_or (book_of m).to k 0 ≡ (path k).ends.to = column_at 96 (λ (p : Lightpath). p.ends.to) m.lightpaths no_lightpath refl k in
         rw (e, from, to)
 
--- the most bytes that the records of the lightpaths take
-lightpaths_wide : (m : RouteBook) → well_formed m ≡ true → length (bytes_of lp_bytes m.lightpaths) ≤ 2016
-lightpaths_wide m h = omega (arith, (counts m h).2, widths lp_bytes 21 (λ before. lp_width m.nodes m.spans) [] m.lightpaths (parts m h).lightpaths)
+-- the lengths of the lightpaths' routes, with five bytes for each, are how many bytes their records take
+records_long : (ps : List Lightpath) → length (bytes_of lp_bytes ps) ≡ sum_by (λ n. 5 + n) (map (λ (r : List ℕ). length r) (map route_of ps))
+unfolding bytes_of
+records_long [] = refl
+records_long (p ∷ ps) =
+    omega (
+      arith,
+      length-append (lp_bytes p) (bytes_of lp_bytes ps),
+      records_long ps,
+      sum_by-cons (λ n. 5 + n) (length p.route.spans) (map (λ (r : List ℕ). length r) (map route_of ps)),
+    )
+
+pub lightpaths_long : (m : RouteBook) → lightpaths_len (book_of m) ≡ length (bytes_of lp_bytes m.lightpaths)
+unfolding padded
+lightpaths_long m =
+    let rs = map route_of m.lightpaths in
+    let lens : List (List ℕ) → List ℕ = map (λ (r : List ℕ). length r) in
+    let others = lens (map alt_route m.alternatives) in
+    let noughts = replicate (152 - length (lens (routes_of m.lightpaths m.alternatives))) 0 in
+    let cut : (book_of m).len ≡ lens rs ++ (others ++ noughts) =
+    ap (λ (l : List ℕ). l ++ noughts) (map-append (λ (r : List ℕ). length r) rs (map alt_route m.alternatives)) ∙ append_assoc (lens rs) others noughts
+    in
+    let long : length (lens rs) ≡ length m.lightpaths = length-map rs (λ (r : List ℕ). length r) ∙ length-map m.lightpaths route_of in
+    ap (sum_by (λ n. 5 + n)) (ap (take (length m.lightpaths)) cut ∙ take_at (lens rs) (others ++ noughts) (length m.lightpaths) long) ∙ sym (records_long m.lightpaths)
+
+-- the records of the first k lightpaths, and that of lightpath k behind them
+one_more : (ps : List Lightpath) (k : ℕ) → k < length ps → bytes_of lp_bytes (take (k + 1) ps) ≡ bytes_of lp_bytes (take k ps) ++ lp_bytes (lightpath_at ps k)
+unfolding bytes_of
+one_more [] k l = absurd (omega arith)
+one_more (p ∷ ps) zero l = append-nil (lp_bytes p)
+one_more (p ∷ ps) (suc k) l =
+    let e : suc k + 1 ≡ suc (k + 1) = omega arith in
+    ap (λ (n : ℕ). bytes_of lp_bytes (take n (p ∷ ps))) e ∙ ap (λ (x : List ℕ). lp_bytes p ++ x) (one_more ps k (omega arith))
+    ∙ sym (append_assoc (lp_bytes p) (bytes_of lp_bytes (take k ps)) (lp_bytes (lightpath_at ps k)))
+
+some_long : (ps : List Lightpath) (k : ℕ) → length (bytes_of lp_bytes (take k ps)) ≤ length (bytes_of lp_bytes ps)
+unfolding bytes_of
+some_long ps zero = omega arith
+some_long [] (suc k) = omega arith
+some_long (p ∷ ps) (suc k) = omega (arith, length-append (lp_bytes p) (bytes_of lp_bytes (take k ps)), length-append (lp_bytes p) (bytes_of lp_bytes ps), some_long ps k)
 
 -- what Held says of the arrays
 module _ {b : Book} (h : Held b) where
@@ -83,76 +111,54 @@ module _ {b : Book} (h : Held b) where
   pub held_short : (k : ℕ) → k < b.lightpaths → get_or b.len k 0 ≤ 16
   held_short k l = let w = within h.book h.is l in rw (h.is, len_here h.book k w) (short_here h.book h.fits k w)
 
-  pub held_row : (k : ℕ) → k < b.lightpaths → length (take (get_or b.len k 0) (drop (16 * k) b.route)) ≡ get_or b.len k 0
-  held_row k l = let w = within h.book h.is l in rw h.is (ap length (row_here h.book h.fits k w) ∙ sym (len_here h.book k w))
-
   pub held_reach : (k : ℕ) → k < b.lightpaths → 16 * k + get_or b.len k 0 ≤ length b.route
   held_reach k l =
       let rs = routes_of h.book.lightpaths h.book.alternatives in
       let n : length h.book.lightpaths ≤ length rs = omega (arith, length-append (map route_of h.book.lightpaths) (map alt_route h.book.alternatives), length-map h.book.lightpaths route_of) in
       omega (arith, held_short k l, within h.book h.is l, n, rows_held 2432 16 rs, ap (λ (x : Book). length x.route) h.is)
 
--- k lightpaths are passed, the first from the place `at` on: those left, from `place` on, end where all of them end
-module _ (b : Book) (at : ℕ) where
-  pub record Passed (k place : ℕ) : Type 0 where
-    pub few : k ≤ b.lightpaths
-    pub left : (m : RouteBook) → b ≡ book_of m → place + length (bytes_of lp_bytes (drop k m.lightpaths)) ≡ at + length (bytes_of lp_bytes m.lightpaths)
-
-  pub passed_start : Passed 0 at
-  passed_start = record { few = omega arith; left = λ m e. refl }
-
-  module _ {k place : ℕ} (now : Passed k place) where
-    pub passed_low : Held b → place ≤ at + 2016
-    passed_low h = omega (arith, now.left h.book h.is, lightpaths_wide h.book h.fits)
-
-    pub passed_next : k < b.lightpaths → Passed (k + 1) (place + (5 + get_or b.len k 0))
-    passed_next l = record {
-      few = omega arith;
-      left = λ m e.
-          let w = within m e l in
-          let n : get_or b.len k 0 ≡ get_or (book_of m).len k 0 = ap (λ (x : Book). get_or x.len k 0) e in
-          omega (arith, now.left m e, long_left m k w, n);
-    }
-
-    none_left : b.lightpaths ≤ k → (m : RouteBook) → b ≡ book_of m → bytes_of lp_bytes (drop k m.lightpaths) ≡ []
-    unfolding bytes_of
-    none_left h m e = rw (drop_of_length-le m.lightpaths {i = k} (omega (arith, ap (λ (x : Book). x.lightpaths) e)))
-
-    pub passed_done : b.lightpaths ≤ k → (m : RouteBook) → b ≡ book_of m → place ≡ at + length (bytes_of lp_bytes m.lightpaths)
-    passed_done h m e = omega (arith, now.left m e, ap length (none_left h m e))
-
--- and the records of those left, laid from `place` on, complete what is in the buffer
+-- the records of the first k lightpaths are laid from the place `at` on, up to `place`, in whichever book is held
 module _ (b : Book) (d : List ℕ) (at : ℕ) where
-  pub record Putting (out : List ℕ) (k place : ℕ) : Type 0 where
-    pub passed : Passed b at k place
-    pub long : length out ≡ length d
-    pub rest : (m : RouteBook) → b ≡ book_of m → well_formed m ≡ true → laid out place (bytes_of lp_bytes (drop k m.lightpaths)) ≡ laid d at (bytes_of lp_bytes m.lightpaths)
+  pub record Put (out : List ℕ) (k place : ℕ) (m : RouteBook) : Type 0 where
+    pub reached : place ≡ at + length (bytes_of lp_bytes (take k m.lightpaths))
+    pub laid_so_far : out ≡ laid d at (bytes_of lp_bytes (take k m.lightpaths))
+
+  abbrev pub Putting : List ℕ → ℕ → ℕ → Type 0
+  Putting out k place = (m : RouteBook) → b ≡ book_of m → well_formed m ≡ true → Put out k place m
 
   pub putting_start : Putting d 0 at
-  putting_start = record { passed = passed_start b at; long = refl; rest = λ m e f. refl }
+  unfolding bytes_of
+  putting_start m e f = record { reached = omega arith; laid_so_far = sym (laid_none d at) }
 
-  module _ {out : List ℕ} {k place : ℕ} (now : Putting out k place) where
-    module _ (l : k < b.lightpaths) (h : Held b) (room : Room b at (length d)) where
-      pub putting_room : place + (5 + get_or b.len k 0) ≤ length out
-      putting_room = omega (arith, (passed_next b at now.passed l).left h.book h.is, room h.book h.is, now.long)
+  module _ {out : List ℕ} {k place : ℕ} (now : Putting out k place) (l : k < b.lightpaths) (room : at + lightpaths_len b ≤ length d) where
+    room_here : (m : RouteBook) → b ≡ book_of m → well_formed m ≡ true → (place + (5 + get_or b.len k 0) ≤ length d) × (get_or b.len k 0 ≡ length (path m k).route.spans)
+    room_here m e f =
+        let w = within m e l in
+        let n : get_or b.len k 0 ≡ length (path m k).route.spans = ap (λ (x : Book). get_or x.len k 0) e ∙ len_here m k w in
+        let r : at + length (bytes_of lp_bytes m.lightpaths) ≤ length d = subst (λ (n : ℕ). at + n ≤ length d) (ap lightpaths_len e ∙ lightpaths_long m) room in
+        (omega (arith, r, n, (now m e f).reached, ap length (one_more m.lightpaths k w), length-append (bytes_of lp_bytes (take k m.lightpaths)) (lp_bytes (path m k)), some_long m.lightpaths (k + 1)), n)
 
-      module _ (r : List ℕ) (is : r ≡ take (get_or b.len k 0) (drop (16 * k) b.route)) where
-        pub putting_next : Putting (laid out place (record_in b k r)) (k + 1) (place + (5 + get_or b.len k 0))
-        putting_next = record {
-          passed = passed_next b at now.passed l;
-          long = laid_long out place (record_in b k r) (omega (arith, putting_room, ap length is ∙ held_row h k l)) ∙ now.long;
-          rest = λ m e f.
-              let w = within m e l in
-              let p = lp_bytes (path m k) in
-              let bytes : record_in b k r ≡ p =
-              ap (λ (x : Book). record_in x k r) e
-              ∙ record_here m f k w r (is ∙ ap (λ (x : Book). take (get_or x.len k 0) (drop (16 * k) x.route)) e)
-              in
-              let to : place + (5 + get_or b.len k 0) ≡ place + length p = omega (arith, ap (λ (x : Book). get_or x.len k 0) e, len_here m k w) in
-              (λ i. laid (laid out place (bytes i)) (to i) (bytes_of lp_bytes (drop (k + 1) m.lightpaths)))
-              ∙ laid_then out place p (bytes_of lp_bytes (drop (k + 1) m.lightpaths)) (omega (arith, putting_room, to))
-              ∙ ap (laid out place) (sym (bytes_left m k w)) ∙ now.rest m e f;
+    pub putting_room : Held b → place + (5 + get_or b.len k 0) ≤ length d
+    putting_room h = (room_here h.book h.is h.fits).0
+
+    pub putting_next : (r : List ℕ) → r ≡ take (get_or b.len k 0) (drop (16 * k) b.route) → Putting (laid out place (record_in b k r)) (k + 1) (place + (5 + length r))
+    putting_next r is m e f =
+        let w = within m e l in
+        let p = lp_bytes (path m k) in
+        let before = bytes_of lp_bytes (take k m.lightpaths) in
+        let more = one_more m.lightpaths k w in
+        let bytes : record_in b k r ≡ p =
+        ap (λ (x : Book). record_in x k r) e
+        ∙ record_here m f k w r (is ∙ ap (λ (x : Book). take (get_or x.len k 0) (drop (16 * k) x.route)) e)
+        in
+        let reached = (now m e f).reached in
+        let room : at + length before ≤ length d = omega (arith, (room_here m e f).0, reached) in
+        record {
+          reached = omega (arith, reached, ap length bytes, ap length more, length-append before p);
+          laid_so_far = (λ i. laid ((now m e f).laid_so_far i) (reached i) (bytes i)) ∙ laid_then d at before p room ∙ ap (laid d at) (sym more);
         }
 
-    pub putting_done : b.lightpaths ≤ k → (m : RouteBook) → b ≡ book_of m → well_formed m ≡ true → out ≡ laid d at (bytes_of lp_bytes m.lightpaths)
-    putting_done h m e f = sym (laid_none out place) ∙ ap (laid out place) (sym (none_left b at now.passed h m e)) ∙ now.rest m e f
+  pub putting_done : {out : List ℕ} {k place : ℕ} → Putting out k place → b.lightpaths ≤ k → (m : RouteBook) → b ≡ book_of m → well_formed m ≡ true → out ≡ laid d at (bytes_of lp_bytes m.lightpaths)
+  putting_done {out} {k} {place} now l m e f =
+      let all : take k m.lightpaths ≡ m.lightpaths = take_all k m.lightpaths (omega (arith, l, ap (λ (x : Book). x.lightpaths) e)) in
+      (now m e f).laid_so_far ∙ ap (λ (ps : List Lightpath). laid d at (bytes_of lp_bytes ps)) all

@@ -1,26 +1,24 @@
 -- The writer's parts fit together: what it has read, and the chosen book, are what `rewrite` asks for.
 -- The struct of the book tells its movable lightpaths, these tell the number of choices and the digits, and the digits the chosen book.
 use Prim.Native.Nat.{ℕ, ◌≤◌, ◌<◌}
-use mathlib.Core.Path.{◌≡◌, refl, sym, ap, ap₂, ◌∙◌}
+use mathlib.Core.Path.{◌≡◌, refl, sym, ap, ◌∙◌}
 use mathlib.Core.List.{List}
-use mathlib.Core.Bool.{Bool, true, false, false≢true}
+use mathlib.Core.Bool.{true}
 use borrow.Author.Tests.{lt-ltb, le-ltb}
 use Rattle.book.specs.Book.{RouteBook, well_formed}
-use Rattle.book.specs.Format.{Reading, good, refused, reading}
-use Rattle.book.specs.Memory.{book_of, number_of, place_of, shown}
-use Rattle.book.specs.Inside.{ReadAs, Rewriting}
-use Rattle.book.specs.Choice.{sizes, choices, product, digits, route_by, chosen}
+use Rattle.book.specs.Format.{encode, Reading, good, refused, reading}
+use Rattle.book.specs.Memory.{book_of, refusal, shown}
+use Rattle.book.specs.Choice.{sizes, choices, product, digits, chosen}
 use Rattle.book.specs.Moving.{movables_of, movables_in, sizes_in, choice_in, chosen_in}
 use Rattle.book.specs.Writing.{chosen_of}
 use Rattle.book.specs.declared.Book.{Book}
-use Rattle.book.specs.declared.Reply.{Reply}
-use Rattle.book.specs.declared.Answer.{Answer}
-use Rattle.book.specs.declared.Answer.TheVariants.{Good, Refused}
+use Rattle.book.specs.declared.refusal.Refusal.{Refusal}
+use Rattle.std.specs.Prelude.{Result, Ok, Err}
 use Rattle.book.proofs.Readers.{Bytes}
 use Rattle.book.proofs.Format.{reading_only}
 use Rattle.book.proofs.Numbering.{digits_valid}
 use Rattle.book.proofs.Gathered.{movables-of}
-use Rattle.book.proofs.Chosen.{sizes_above, length_rerouted, choice_fits}
+use Rattle.book.proofs.Chosen.{sizes_above}
 use Rattle.book.proofs.Choices.{sizes-in}
 use Rattle.book.proofs.Placed.{chosen-in}
 
@@ -39,14 +37,6 @@ module _ {b : Book} (m : RouteBook) (held : b ≡ book_of m) (fits : well_formed
   chosen_is n =
       (λ i. chosen_in (held i) (movables_are i) (record { digits = digits (sizes_are i) n })) ∙ chosen-in m (digits (sizes m) n) fits (digits_valid (sizes m) n (sizes_above m))
 
-pub rewriting : {s : List ℕ} {b : Book} (m : RouteBook) → ReadAs s b m → (n : ℕ) → Rewriting s b (chosen_in b (movables_in b) (choice_in (movables_in b) n)) m (chosen m n).lightpaths
-rewriting m h n = record {
-  read = h;
-  new_is = chosen_is m h.held h.fits n;
-  new_fits = choice_fits m n h.fits;
-  as_many = length_rerouted (route_by m (digits (sizes m) n)) 0 m.lightpaths;
-}
-
 -- the choice of a good book, by its test
 pub no_such_choice : (m : RouteBook) (n : ℕ) → choices m ≤ n → chosen_of (good m) n ≡ refused 12 0
 no_such_choice m n l = rw (le-ltb n (choices m) l)
@@ -54,31 +44,39 @@ no_such_choice m n l = rw (le-ltb n (choices m) l)
 pub such_a_choice : (m : RouteBook) (n : ℕ) → n < choices m → chosen_of (good m) n ≡ good (chosen m n)
 such_a_choice m n l = rw (lt-ltb n (choices m) l)
 
-good_not_refused : {k p : ℕ} → ◌≡◌ {A = Answer} Good (Refused k p) → ⊥
-good_not_refused e = false≢true (sym (ap is_good e))
-  where
-    is_good : Answer → Bool
-    is_good Good = true
-    is_good (Refused k p) = false
+-- an answer says what the reading was: of a good book, its struct is held; and a refusal has the number and place of the reading
+pub record Holds (g : Reading) (b : Book) : Type 0 where
+  pub book : RouteBook
+  pub is : g ≡ good book
+  pub held : b ≡ book_of book
 
--- a reply says what the reading was
+pub ok_holds : (g : Reading) {b : Book} → ◌≡◌ {A = Result Book Refusal} (Ok b) (shown g) → Holds g b
+ok_holds (good m) e = record { book = m; is = refl; held = cc }
+ok_holds (refused k p) e = absurd (cc)
+
+pub record Refuses (g : Reading) (e : Refusal) : Type 0 where
+  pub number : ℕ
+  pub place : ℕ
+  pub is : g ≡ refused number place
+  pub same : e ≡ refusal number place
+
+pub err_refuses : (g : Reading) {r : Refusal} → ◌≡◌ {A = Result Book Refusal} (Err r) (shown g) → Refuses g r
+err_refuses (good m) e = absurd (cc)
+err_refuses (refused k p) e = record { number = k; place = p; is = refl; same = cc }
+
+-- the struct b holds the good book m, whose bytes are s; and it is what the bytes read as
+pub record ReadAs (s : List ℕ) (b : Book) (m : RouteBook) : Type 0 where
+  pub written : s ≡ encode m
+  pub held : b ≡ book_of m
+  pub fits : well_formed m ≡ true
+
 pub record GoodRead (s : List ℕ) (b : Book) : Type 0 where
   pub book : RouteBook
   pub reads : reading s ≡ good book
   pub is : ReadAs s b book
 
-pub reply_read : (s : List ℕ) (r : Reply) → Bytes s → r ≡ shown (reading s) → r.answer ≡ Good → GoodRead s r.book
-reply_read s r h e a = go (reading s) refl e
-  where
-    go : (g : Reading) → reading s ≡ g → r ≡ shown g → GoodRead s r.book
-    go (good m) q w = let o = reading_only s m h q in record { book = m; reads = q; is = record { written = sym o.0; held = ap (λ (x : Reply). x.book) w; fits = o.1 } }
-    go (refused k p) q w = let z : ◌≡◌ {A = Answer} Good (Refused k p) = sym a ∙ ap (λ (x : Reply). x.answer) w in absurd (good_not_refused z)
-
-pub reply_refused : (s : List ℕ) (r : Reply) (k p : ℕ) → r ≡ shown (reading s) → r.answer ≡ Refused k p → reading s ≡ refused k p
-reply_refused s r k p e a = go (reading s) refl e
-  where
-    go : (g : Reading) → reading s ≡ g → r ≡ shown g → reading s ≡ refused k p
-    go (good m) q w = let z : ◌≡◌ {A = Answer} Good (Refused k p) = sym (ap (λ (x : Reply). x.answer) w) ∙ a in absurd (good_not_refused z)
-    go (refused i j) q w =
-        let z : ◌≡◌ {A = Answer} (Refused i j) (Refused k p) = sym (ap (λ (x : Reply). x.answer) w) ∙ a in
-        q ∙ ap₂ refused (ap number_of z) (ap place_of z)
+pub reply_read : (s : List ℕ) {b : Book} → Bytes s → ◌≡◌ {A = Result Book Refusal} (Ok b) (shown (reading s)) → GoodRead s b
+reply_read s h e =
+    let g = ok_holds (reading s) e in
+    let o = reading_only s g.book h g.is in
+    record { book = g.book; reads = g.is; is = record { written = sym o.0; held = g.held; fits = o.1 } }

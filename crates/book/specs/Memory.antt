@@ -1,13 +1,13 @@
 -- How a book is held in memory, and the reader's answer: docs/BOOK.md, section 7. Every array is its list and then noughts.
-use Rattle.std.specs.Prelude.{ℕ, ◌+◌, ◌-◌, ◌*◌, List, [], ◌∷◌, ◌++◌, map, length, replicate}
+use Rattle.std.specs.Prelude.{ℕ, ◌+◌, ◌-◌, ◌*◌, List, [], ◌∷◌, ◌++◌, map, length, get_or, replicate, Result, Ok, Err}
 use Rattle.std.proofs.Math.Seq.{paste}
 use Rattle.book.specs.Book.{Span, Lightpath, Alternative, RouteBook, most_spans, most_lightpaths, most_alternatives, longest_route, lightpath_of}
 use Rattle.book.specs.Format.{Reading, good, refused}
 use Rattle.book.specs.Bits.{station_set, span_word}
 use Rattle.book.specs.declared.Book.{Book}
-use Rattle.book.specs.declared.Answer.{Answer}
-use Rattle.book.specs.declared.Answer.TheVariants.{Good, Refused}
-use Rattle.book.specs.declared.Reply.{Reply}
+use Rattle.book.specs.declared.refusal.Fault.{Fault}
+use Rattle.book.specs.declared.refusal.Fault.TheVariants.{CutShort, WrongMark, BadCounts, BadField, SpanTooHigh, BadLength, BrokenWalk, OutOfOrder, AfterEnd, NoStation, NoRoom, NoChoice, NoSpan}
+use Rattle.book.specs.declared.refusal.Refusal.{Refusal}
 
 -- a list in n places; lists one after another, each in w places
 unfoldable pub padded : ℕ → List ℕ → List ℕ
@@ -76,16 +76,43 @@ abbrev pub with_rows : Book → List ℕ → List ℕ → List ℕ → List ℕ 
 with_rows b len route low high =
     remade b.nodes b.spans b.lightpaths b.alternatives b.stations b.left b.right b.limit b.from b.to b.owner len route low high
 
--- B49: the answer's number and place for each of its cases: 0 and 0 where the book is good
-abbrev pub number_of : Answer → ℕ
-number_of Good = 0
-number_of (Refused n p) = n
+-- B49: the number of each fault; and the fault with a number from 1 to 13, where any other is read as 13
+abbrev pub fault_number : Fault → ℕ
+fault_number CutShort = 1
+fault_number WrongMark = 2
+fault_number BadCounts = 3
+fault_number BadField = 4
+fault_number SpanTooHigh = 5
+fault_number BadLength = 6
+fault_number BrokenWalk = 7
+fault_number OutOfOrder = 8
+fault_number AfterEnd = 9
+fault_number NoStation = 10
+fault_number NoRoom = 11
+fault_number NoChoice = 12
+fault_number NoSpan = 13
 
-abbrev pub place_of : Answer → ℕ
-place_of Good = 0
-place_of (Refused n p) = p
+abbrev pub faults : List Fault
+faults =
+    NoSpan ∷ CutShort ∷ WrongMark ∷ BadCounts ∷ BadField ∷ SpanTooHigh ∷ BadLength ∷ BrokenWalk ∷ OutOfOrder ∷ AfterEnd ∷ NoStation ∷ NoRoom ∷ NoChoice ∷ []
 
--- B49: what the reader answers, with the book; a refusal has nought everywhere else
-abbrev pub shown : Reading → Reply
-shown (good m) = record { answer = Good; book = book_of m }
-shown (refused n p) = record { answer = Refused n p; book = book_of empty_book }
+abbrev pub fault_of : ℕ → Fault
+fault_of n = get_or faults n NoSpan
+
+-- B49: a refusal by its number and place
+abbrev pub refusal : ℕ → ℕ → Refusal
+refusal n p = record { fault = fault_of n; place = p }
+
+-- B49: the number and place of an answer: 0 and 0 where it is no refusal
+abbrev pub number_of : {A : Type 0} → Result A Refusal → ℕ
+number_of (Ok a) = 0
+number_of (Err r) = fault_number r.fault
+
+abbrev pub place_of : {A : Type 0} → Result A Refusal → ℕ
+place_of (Ok a) = 0
+place_of (Err r) = r.place
+
+-- B49: what the reader answers
+abbrev pub shown : Reading → Result Book Refusal
+shown (good m) = Ok (book_of m)
+shown (refused n p) = Err (refusal n p)

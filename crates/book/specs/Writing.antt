@@ -1,9 +1,9 @@
 -- Writing the chosen book into a lent buffer: docs/BOOK.md, section 9.
-use Rattle.std.specs.Prelude.{ℕ, List, ◌++◌, cond, length, drop, ltb, leb}
+use Rattle.std.specs.Prelude.{ℕ, List, ◌++◌, cond, length, drop, ltb, leb, Result, Ok, Err}
 use Rattle.book.specs.Format.{encode, Reading, good, refused, reading}
 use Rattle.book.specs.Choice.{choices, chosen}
-use Rattle.book.specs.declared.write.Written.{Written}
-use Rattle.book.specs.declared.write.Written.TheVariants.{Length, Refused}
+use Rattle.book.specs.Memory.{refusal}
+use Rattle.book.specs.declared.refusal.Refusal.{Refusal}
 
 -- B60: what writing answers: these bytes, or a number of refusal and a place
 pub data Writing : Type 0 where
@@ -37,20 +37,12 @@ abbrev pub buffer : Writing → List ℕ → List ℕ
 buffer (served w) out = w ++ drop (length w) out
 buffer (denied k p) out = out
 
--- B60: the answer's number, place and length for each of its cases: 0 and 0 where it is served, and length 0 where it is refused
-abbrev pub written_number : Written → ℕ
-written_number (Length l) = 0
-written_number (Refused k p) = k
+-- B60: what the writer answers: the length of what it wrote, or the refusal
+abbrev pub written_of : Writing → Result ℕ Refusal
+written_of (served w) = Ok (length w)
+written_of (denied k p) = Err (refusal k p)
 
-abbrev pub written_place : Written → ℕ
-written_place (Length l) = 0
-written_place (Refused k p) = p
-
-abbrev pub written_length : Written → ℕ
-written_length (Length l) = l
-written_length (Refused k p) = 0
-
--- B60: what the writer answers
-abbrev pub written_of : Writing → Written
-written_of (served w) = Length (length w)
-written_of (denied k p) = Refused k p
+-- B60: the length in an answer: 0 where it is a refusal
+abbrev pub written_length : Result ℕ Refusal → ℕ
+written_length (Ok l) = l
+written_length (Err r) = 0

@@ -4,23 +4,25 @@
 
 pub mod choice;
 mod copy;
+mod counts;
 mod fill;
+mod network;
 mod record;
+pub mod refusal;
 mod row;
 mod set;
-mod stage;
 mod walk;
 pub mod write;
 
 ghost use Rattle.std.specs.Prelude.{◌≡◌};
 ghost use Rattle.book.specs.Format.{reading};
 ghost use Rattle.book.specs.Memory.{shown};
-ghost use Rattle.book.specs.Inside.{refused_reply};
 
-use stage::Counts;
+use refusal::{Fault, Refusal};
 
 // A book that was read: counts, the set of stations, and one array a field, each its list and then noughts. Row k of `route` has 16 places; the
 // lightpaths' routes come first, then the alternatives'. `low` and `high` are the spans of each row as a set of 128.
+// One array a field, and not one of structs, since the contract of `read` names each: `book_of`, docs/BOOK.md, B46.
 #[derive(Clone, Copy)]
 pub struct Book {
     pub nodes: u8,
@@ -40,60 +42,18 @@ pub struct Book {
     pub high: [u64; 152],
 }
 
-// Good, or refused with a number and a place.
-#[derive(Clone, Copy)]
-pub enum Answer {
-    Good,
-    Refused(u8, usize),
-}
-
-// The reader's answer; the book is all noughts where it is refused.
-#[derive(Clone, Copy)]
-pub struct Reply {
-    pub answer: Answer,
-    pub book: Book,
-}
-
-// After some records: the place of the next, or a refusal's number and place.
-#[derive(Clone, Copy)]
-pub(crate) enum Step {
-    Next(usize),
-    Bad(u8, usize),
-}
-
-// A refusal: its number and place, and a book of nothing.
-pub(crate) fn refused(no: u8, place: usize) -> Reply
-    ensures { result ≡ refused_reply no place }
-{
-    let book = fill::empty();
-    Reply {
-        answer: Answer::Refused(no, place),
-        book: book,
-    }
-}
-
-// Reads a book, front to back, up to its first fault.
-pub fn read(s: &[u8]) -> Reply
+// Reads a book, front to back, up to its first fault: one kind of record after another, each into the book of those before it.
+pub fn read(s: &[u8]) -> Result<Book, Refusal>
     ensures { result ≡ shown (reading s.now) }
 {
-    let no = record::hd_no(s);
-    if no != 0 {
-        return refused(no, 0);
+    let counts = record::hd(s)?;
+    let nodes = fill::with_nodes(s, 6, counts.nodes)?;
+    if nodes.book.stations == 0 {
+        return Err(Fault::NoStation.at(nodes.next));
     }
-    let c = Counts {
-        nodes: s[2],
-        spans: s[3],
-        lightpaths: s[4],
-        alternatives: s[5],
-    };
-    let f = stage::from_nodes(s, c);
-    let step = f.step;
-    let book = f.book;
-    match step {
-        Step::Next(_) => Reply {
-            answer: Answer::Good,
-            book: book,
-        },
-        Step::Bad(no, place) => refused(no, place),
-    }
+    let spans = fill::with_spans(s, nodes, counts.spans)?;
+    let lightpaths = fill::with_lightpaths(s, spans, counts.lightpaths)?;
+    let all = fill::with_alternatives(s, lightpaths, counts.alternatives)?;
+    record::en(s, all.next)?;
+    Ok(all.book)
 }

@@ -1,218 +1,192 @@
-// The records of a book, one at a time. Each function whose name ends in _no is given the bytes from the record's first on, and answers with
-// the number of refusal of the record's first fault, or 0 where it has none; for the records that end with a route, also with its place.
-ghost use Rattle.std.specs.Prelude.{◌≡◌, cond, ◌+◌, ◌≤◌, ◌<◌, length, get_or, eqb, []};
+// The records of a book, one at a time. Each function is given the whole book and the place of its record, and answers what the record says, or
+// the refusal of the record's first fault.
+ghost use Rattle.std.specs.Prelude.{◌≡◌, cond, ◌+◌, ◌≤◌, ◌<◌, length, eqb, IfOk, slice_index};
 ghost use Rattle.book.specs.Reader.{opened};
-ghost use Rattle.book.specs.Book.{counts_fit, span_ends};
-ghost use Rattle.book.specs.Format.{EN, hd, nd, sp};
-ghost use Rattle.book.specs.Inside.{tab, Numbered, span_in, EndsLow, RouteNo, ends_fit, LpNo, OwnersLow, held_for, follows_in, tally_with, AlNo};
+ghost use Rattle.book.specs.Book.{counts_fit, span_ends, length_fits};
+ghost use Rattle.book.specs.Format.{hd, nd, sp};
+ghost use Rattle.book.specs.Inside.{Reads, counts_of, span_of, LightpathsHeld, ends_in, ends_fit, RouteRead, LpRead, held_for, follows_in, tally_with, AlRead, EndRead};
 
-use crate::walk::Amiss;
-use crate::{set, walk};
+use crate::counts::Counts;
+use crate::network::Network;
+use crate::refusal::{Fault, Refusal};
+use crate::{Book, set, walk};
 
-// The mark of two bytes that is due, then k fixed fields.
-pub(crate) fn opened_no(d: &[u8], one: u8, two: u8, k: usize) -> u8
-    requires { k < 16 }
-    ensures { Numbered result (opened (record { one = one; two = two }) k) d.now (tab (λ i. get_or d.now (2 + i) 0) k) (2 + k) }
+// The mark of two bytes that is due, then k fixed fields, which are handed back.
+fn opened<'a>(s: &'a [u8], at: usize, mark: &[u8; 2], k: usize) -> Result<&'a [u8], Refusal>
+    requires { (at ≤ length s.now) × (k < 16) }
+    ensures told { Reads result s.now at (opened (record { one = slice_index mark.now 0; two = slice_index mark.now 1 }) k) (2 + k) (λ v. v.now) }
+    ensures long { IfOk result (λ v. length v.now ≡ k) }
 {
+    let d = &s[at..];
     if d.len() < 2 {
-        return 1;
+        return Err(Fault::CutShort.at(at));
     }
-    if d[0] != one {
-        return 2;
-    }
-    if d[1] != two {
-        return 2;
+    if d[0] != mark[0] || d[1] != mark[1] {
+        return Err(Fault::WrongMark.at(at));
     }
     if d.len() < 2 + k {
-        return 1;
+        return Err(Fault::CutShort.at(at));
     }
-    0
+    Ok(&d[2..2 + k])
 }
 
+// Whether they are counts of a book.
 fn counts_fit(nodes: u8, spans: u8, lightpaths: u8, alternatives: u8) -> bool
     ensures { result ≡ counts_fit nodes spans lightpaths alternatives }
 {
-    if nodes < 1 {
-        return false;
-    }
-    if 64 < nodes {
-        return false;
-    }
-    if 128 < spans {
-        return false;
-    }
-    if 96 < lightpaths {
-        return false;
-    }
-    alternatives <= 56
+    (1..=64).contains(&nodes) && spans <= 128 && lightpaths <= 96 && alternatives <= 56
 }
 
-pub(crate) fn hd_no(d: &[u8]) -> u8
-    ensures { Numbered result hd d.now (tab (λ i. get_or d.now (2 + i) 0) 4) 6 }
+// HD, whose counts fit.
+pub(crate) fn hd(s: &[u8]) -> Result<Counts, Refusal>
+    ensures { Reads result s.now 0 hd 6 counts_of }
 {
-    let no = opened_no(d, b'H', b'D', 4);
-    if no != 0 {
-        return no;
+    let v = opened(s, 0, b"HD", 4)?;
+    if !counts_fit(v[0], v[1], v[2], v[3]) {
+        return Err(Fault::BadCounts.at(0));
     }
-    if counts_fit(d[2], d[3], d[4], d[5]) {
-        0
-    } else {
-        3
-    }
+    Ok(Counts {
+        nodes: v[0],
+        spans: v[1],
+        lightpaths: v[2],
+        alternatives: v[3],
+    })
 }
 
-pub(crate) fn nd_no(d: &[u8]) -> u8
-    ensures { Numbered result nd d.now (eqb (get_or d.now 2 0) 1) 3 }
+// ND: whether the node is a station.
+pub(crate) fn nd(s: &[u8], at: usize) -> Result<bool, Refusal>
+    requires { at ≤ length s.now }
+    ensures { Reads result s.now at nd 3 (λ t. t) }
 {
-    let no = opened_no(d, b'N', b'D', 1);
-    if no != 0 {
-        return no;
+    let v = opened(s, at, b"ND", 1)?;
+    match v[0] {
+        0 => Ok(false),
+        1 => Ok(true),
+        _ => Err(Fault::BadField.at(at)),
     }
-    let flag = d[2];
-    if flag <= 1 { 0 } else { 4 }
 }
 
+#[derive(Clone, Copy)]
+pub(crate) struct Span {
+    pub left: u8,
+    pub right: u8,
+    pub limit: u8,
+}
+
+// Whether they are different nodes.
+#[tactic(auto, unfolding(crate::specs::Book::span_ends))]
 fn span_ends(nodes: u8, a: u8, b: u8) -> bool
     ensures { result ≡ span_ends nodes a b }
 {
-    if nodes <= a {
-        return false;
-    }
-    if nodes <= b {
-        return false;
-    }
-    a != b
+    a < nodes && b < nodes && a != b
 }
 
-pub(crate) fn sp_no(d: &[u8], nodes: u8) -> u8
-    ensures { Numbered result (sp nodes) d.now (span_in d.now) 5 }
+// SP, whose ends are different nodes.
+pub(crate) fn sp(s: &[u8], at: usize, nodes: u8) -> Result<Span, Refusal>
+    requires { at ≤ length s.now }
+    ensures { Reads result s.now at (sp nodes) 5 span_of }
 {
-    let no = opened_no(d, b'S', b'P', 3);
-    if no != 0 {
-        return no;
+    let v = opened(s, at, b"SP", 3)?;
+    if !span_ends(nodes, v[0], v[1]) {
+        return Err(Fault::BadField.at(at));
     }
-    if span_ends(nodes, d[2], d[3]) { 0 } else { 4 }
+    Ok(Span {
+        left: v[0],
+        right: v[1],
+        limit: v[2],
+    })
 }
 
-// The number of a record's first fault, 0 where it has none, and how many bytes into the record the fault is.
+// The ends of a lightpath.
 #[derive(Clone, Copy)]
-pub(crate) struct Flaw {
-    pub no: u8,
-    pub at: usize,
+pub(crate) struct Ends {
+    pub from: u8,
+    pub to: u8,
 }
 
-// A route of `len` spans between two nodes, which begins `at` bytes into the record d: its length, whether its bytes are there, its span numbers,
-// its walk. The first two are faults of the record; the others, of a span.
-fn route_no<'a>(
-    d: &[u8],
-    at: usize,
-    len: u8,
-    from: u8,
-    to: u8,
-    spans: u8,
-    left: &'a [u8; 128],
-    right: &'a [u8; 128],
-) -> Flaw
-    requires { EndsLow left.now right.now × (spans ≤ 128) × (from < 64) × (to < 64) × (at ≤ length d.now) }
-    ensures { RouteNo result.no result.at d.now at len from to spans left.now right.now }
+// Whether it is the length of a route.
+#[tactic(auto, unfolding(crate::specs::Book::length_fits))]
+fn length_fits(len: u8) -> bool
+    ensures { result ≡ length_fits len }
 {
-    if len < 1 {
-        return Flaw { no: 6, at: 0 };
-    }
-    if 16 < len {
-        return Flaw { no: 6, at: 0 };
+    (1..=16).contains(&len)
+}
+
+// A route of `len` spans between two nodes, which begins at `start` in the record at `at`: its length, whether its bytes are there, its span
+// numbers, its walk. The first two are faults of the record; the others, of a span.
+fn route<'a>(
+    s: &'a [u8],
+    at: usize,
+    start: usize,
+    len: u8,
+    ends: Ends,
+    network: Network,
+) -> Result<&'a [u8], Refusal>
+    requires { (ends.from < 64) × (at ≤ length s.now) × (start ≤ length s.now) }
+    ensures { RouteRead result s.now at start len (ends_in ends) network.entry.book.now }
+{
+    if !length_fits(len) {
+        return Err(Fault::BadLength.at(at));
     }
     let n = len as usize;
-    if d.len() - at < n {
-        return Flaw { no: 1, at: 0 };
+    if s.len() - start < n {
+        return Err(Fault::CutShort.at(at));
     }
-    let route = &d[at..at + n];
-    let high = walk::first_high(route, spans);
-    if let Amiss::At(j) = high {
-        let place = at + j;
-        return Flaw { no: 5, at: place };
+    let route = &s[start..start + n];
+    if let Some(j) = walk::first_high(route, network.book.spans) {
+        return Err(Fault::SpanTooHigh.at(start + j));
     }
-    let stray = walk::first_stray(route, from, to, left, right);
-    if let Amiss::At(j) = stray {
-        let place = at + j;
-        return Flaw { no: 7, at: place };
+    if let Some(j) = network.first_stray(route, ends.from, ends.to) {
+        return Err(Fault::BrokenWalk.at(start + j));
     }
-    Flaw { no: 0, at: 0 }
+    Ok(route)
 }
 
-// Whether two nodes are different stations.
-fn ends_fit(nodes: u8, stations: u64, a: u8, b: u8) -> bool
-    requires { nodes ≤ 64 }
-    ensures { result ≡ ends_fit nodes stations a b }
+// Whether the ends are different stations.
+fn ends_fit(network: Network, ends: Ends) -> bool
+    ensures { result ≡ ends_fit network.entry.book.now.nodes network.entry.book.now.stations ends.from ends.to }
 {
-    if nodes <= a {
-        return false;
-    }
-    if nodes <= b {
-        return false;
-    }
-    if !set::has(stations, a) {
-        return false;
-    }
-    if !set::has(stations, b) {
-        return false;
-    }
-    a != b
+    let book = network.book;
+    let Ends { from, to } = ends;
+    from < book.nodes
+        && to < book.nodes
+        && set::has(book.stations, from)
+        && set::has(book.stations, to)
+        && from != to
 }
 
-pub(crate) fn lp_no<'a>(
-    d: &[u8],
-    nodes: u8,
-    stations: u64,
-    spans: u8,
-    left: &'a [u8; 128],
-    right: &'a [u8; 128],
-) -> Flaw
-    requires { EndsLow left.now right.now × (spans ≤ 128) × (nodes ≤ 64) }
-    ensures { LpNo result.no result.at d.now nodes stations spans left.now right.now }
+#[derive(Clone, Copy)]
+pub(crate) struct Lightpath<'a> {
+    pub ends: Ends,
+    pub route: &'a [u8],
+}
+
+// LP, whose ends are different stations, which its route joins.
+pub(crate) fn lp<'a>(s: &'a [u8], at: usize, network: Network) -> Result<Lightpath<'a>, Refusal>
+    requires { at ≤ length s.now }
+    ensures { LpRead result s.now at network.entry.book.now }
 {
-    let no = opened_no(d, b'L', b'P', 3);
-    if no != 0 {
-        return Flaw { no: no, at: 0 };
+    let v = opened(s, at, b"LP", 3)?;
+    let ends = Ends {
+        from: v[0],
+        to: v[1],
+    };
+    if !ends_fit(network, ends) {
+        return Err(Fault::BadField.at(at));
     }
-    let from = d[2];
-    let to = d[3];
-    let len = d[4];
-    if !ends_fit(nodes, stations, from, to) {
-        return Flaw { no: 4, at: 0 };
-    }
-    route_no(d, 5, len, from, to, spans, left, right)
+    let route = route(s, at, at + 5, v[2], ends, network)?;
+    Ok(Lightpath { ends, route })
 }
 
-// 1 where the test holds, else 0.
-fn one_if(t: bool) -> u8
-    ensures { (result ≡ cond t 1 0) × (result ≤ 1) }
-{
-    if t { 1 } else { 0 }
-}
-
-// How many lightpaths there are; and of the alternatives so far, the last one's lightpath, how many are that lightpath's, and of how many
-// lightpaths they are.
+// Of the alternatives so far: the last one's lightpath, how many are that lightpath's, and of how many lightpaths they are.
 #[derive(Clone, Copy)]
 pub(crate) struct Tally {
-    pub lightpaths: u8,
     pub last: u8,
     pub same: u8,
     pub different: u8,
 }
 
 impl Tally {
-    pub(crate) fn none(lightpaths: u8) -> Tally
-        ensures { result ≡ record { lightpaths = lightpaths; last = 0; same = 0; different = 0 } }
-    {
-        Tally {
-            lightpaths: lightpaths,
-            last: 0,
-            same: 0,
-            different: 0,
-        }
-    }
-
     // How many of the alternatives so far are lightpath k's, where k is not below the last.
     fn held_for(self, k: u8) -> u8
         ensures { result ≡ held_for self.last self.same k }
@@ -220,68 +194,66 @@ impl Tally {
         if k == self.last { self.same } else { 0 }
     }
 
-    // Whether an alternative of lightpath k may stand next.
-    fn follows(self, k: u8) -> bool
-        ensures { result ≡ follows_in self.last self.same self.different self.lightpaths k }
+    // Whether an alternative of lightpath k may stand next, in a book with so many lightpaths.
+    fn follows(self, lightpaths: u8, k: u8) -> bool
+        ensures { result ≡ follows_in self.last self.same self.different lightpaths k }
     {
-        if self.lightpaths <= k {
-            return false;
-        }
-        if k < self.last {
-            return false;
-        }
         let held = self.held_for(k);
-        if held == 0 {
-            return self.different < 8;
-        }
-        held < 7
+        k < lightpaths && self.last <= k && (0 < held || self.different < 8) && held < 7
     }
 
     // With one alternative more, of lightpath k.
     pub(crate) fn with(self, k: u8) -> Tally
         requires { (self.same < 255) × (self.different < 255) }
-        ensures { result ≡ tally_with self.lightpaths self.last self.same self.different k }
+        ensures { result ≡ tally_with self k }
     {
         let held = self.held_for(k);
-        let fresh = one_if(held == 0);
         Tally {
-            lightpaths: self.lightpaths,
             last: k,
             same: held + 1,
-            different: self.different + fresh,
+            different: self.different + u8::from(held == 0),
         }
     }
 }
 
-pub(crate) fn al_no<'a>(
-    d: &[u8],
-    tally: Tally,
-    spans: u8,
-    from: &'a [u8; 96],
-    to: &'a [u8; 96],
-    left: &'a [u8; 128],
-    right: &'a [u8; 128],
-) -> Flaw
-    requires { EndsLow left.now right.now × (spans ≤ 128) × OwnersLow from.now to.now × (tally.lightpaths ≤ 96) }
-    ensures { AlNo result.no result.at d.now tally.lightpaths tally.last tally.same tally.different spans from.now to.now left.now right.now }
-{
-    let no = opened_no(d, b'A', b'L', 2);
-    if no != 0 {
-        return Flaw { no: no, at: 0 };
-    }
-    let k = d[2];
-    let len = d[3];
-    if !tally.follows(k) {
-        return Flaw { no: 8, at: 0 };
-    }
-    let i = k as usize;
-    let a = from[i];
-    let b = to[i];
-    route_no(d, 4, len, a, b, spans, left, right)
+#[derive(Clone, Copy)]
+pub(crate) struct Alternative<'a> {
+    pub lightpath: u8,
+    pub route: &'a [u8],
 }
 
-pub(crate) fn en_no(d: &[u8]) -> u8
-    ensures { Numbered result (opened EN 0) d.now [] 2 }
+// AL, which may follow those that are tallied; its route joins the ends of its lightpath.
+pub(crate) fn al<'a>(
+    s: &'a [u8],
+    at: usize,
+    tally: Tally,
+    book: &Book,
+) -> Result<Alternative<'a>, Refusal>
+    requires { (at ≤ length s.now) × LightpathsHeld book.now }
+    ensures { AlRead result s.now at tally book.now }
 {
-    opened_no(d, b'E', b'N', 0)
+    let v = opened(s, at, b"AL", 2)?;
+    let lightpath = v[0];
+    if !tally.follows(book.lightpaths, lightpath) {
+        return Err(Fault::OutOfOrder.at(at));
+    }
+    let ends = Ends {
+        from: book.from[lightpath as usize],
+        to: book.to[lightpath as usize],
+    };
+    let route = route(s, at, at + 4, v[1], ends, Network { book })?;
+    Ok(Alternative { lightpath, route })
+}
+
+// EN is due, and then nothing.
+pub(crate) fn en(s: &[u8], at: usize) -> Result<(), Refusal>
+    requires { at ≤ length s.now }
+    ensures { EndRead result s.now at }
+{
+    opened(s, at, b"EN", 0)?;
+    let end = at + 2;
+    if end < s.len() {
+        return Err(Fault::AfterEnd.at(end));
+    }
+    Ok(())
 }

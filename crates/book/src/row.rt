@@ -1,7 +1,6 @@
 // A route in a row of sixteen places, and its spans as a set of 128: two words.
-ghost use Rattle.std.specs.Prelude.{◌≡◌, ◌+◌, ◌≤◌, length};
-ghost use Rattle.book.specs.Memory.{laid};
-ghost use Rattle.book.specs.Inside.{words_of, words_into};
+ghost use Rattle.std.specs.Prelude.{◌≡◌, ◌≤◌, ◌<◌, length};
+ghost use Rattle.book.specs.Inside.{words_of, words_into, with_row};
 
 use crate::{copy, set};
 
@@ -16,12 +15,9 @@ pub(crate) struct Words {
 fn with_span(w: Words, x: u8) -> Words
     ensures { result ≡ words_into w.low w.high x }
 {
-    let i = x % 64;
-    let low = set::put_if(x / 64 == 0, w.low, i);
-    let high = set::put_if(x / 64 == 1, w.high, i);
     Words {
-        low: low,
-        high: high,
+        low: set::put_if(x / 64 == 0, w.low, x % 64),
+        high: set::put_if(x / 64 == 1, w.high, x % 64),
     }
 }
 
@@ -30,19 +26,31 @@ fn words_of(route: &[u8]) -> Words
     ensures { result ≡ words_of route.now }
 {
     let mut w = Words { low: 0, high: 0 };
-    let mut i = 0;
-    while i < route.len() {
-        w = with_span(w, route[i]);
-        i += 1;
+    for x in route {
+        w = with_span(w, *x);
     }
     w
 }
 
-// Puts a route into the rows, at a row's start, and hands back its spans as a set.
-pub(crate) fn put_row(rows: &mut [u8; 2432], at: usize, route: &[u8]) -> Words
-    requires { (length rows.old ≡ 2432) × (at + length route.now ≤ 2432) }
-    ensures { (result ≡ words_of route.now) × (rows.new ≡ laid rows.old at route.now) }
-{
-    copy::put(rows, at, route);
-    words_of(route)
+// The rows of all routes so far: each route's length, its places, and its spans as a set.
+#[derive(Clone, Copy)]
+pub(crate) struct Rows {
+    pub len: [u8; 152],
+    pub route: [u8; 2432],
+    pub low: [u64; 152],
+    pub high: [u64; 152],
+}
+
+impl Rows {
+    // Puts a route into row k.
+    pub(crate) fn put(&mut self, k: usize, route: &[u8])
+        requires { (k < 152) × (length route.now ≤ 16) }
+        ensures { self.new ≡ with_row self.old k route.now }
+    {
+        copy::put(&mut self.route, 16 * k, route);
+        let words = words_of(route);
+        self.len[k] = route.len() as u8;
+        self.low[k] = words.low;
+        self.high[k] = words.high;
+    }
 }

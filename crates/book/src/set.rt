@@ -3,6 +3,7 @@ ghost use Rattle.std.specs.Prelude.{◌≡◌, ◌<◌};
 ghost use Rattle.book.specs.Bits.{has, put, put_if};
 
 // Whether i is in x.
+#[tactic(auto, using(crate::proofs::Bits::machine_has))]
 pub(crate) fn has(x: u64, i: u8) -> bool
     requires { i < 64 }
     ensures { result ≡ has x i }

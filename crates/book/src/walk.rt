@@ -1,93 +1,54 @@
-// The walk of a route over the spans of a book: their ends stand in two arrays, the nodes met in one word.
-ghost use Rattle.std.specs.Prelude.{◌≡◌, true, ◌<◌, length};
+// The walk of a route over the spans of a book: the nodes met stand in one word.
+ghost use Rattle.std.specs.Prelude.{◌≡◌, true, ◌<◌, length, leb, position};
 ghost use Rattle.book.specs.Bits.{put};
 ghost use Rattle.book.specs.Book.{below};
-ghost use Rattle.book.specs.Inside.{hop_of, stray_in, Within, HighAt, EndsLow};
+ghost use Rattle.book.specs.Inside.{hop_of, stray_in, Within};
 
+use crate::network::Network;
 use crate::set;
 
-// What one step of a walk gives: the node that it leads to, or that it leads nowhere.
-#[derive(Clone, Copy)]
-pub(crate) enum Hop {
-    To(u8),
-    Off,
-}
-
-// Whether a span of a route is at fault, and at which place in the route it stands.
-#[derive(Clone, Copy)]
-pub(crate) enum Amiss {
-    Nowhere,
-    At(usize),
-}
-
-// Where span x leads from the node p, if it has an end there and the other is not yet met.
-fn step_over<'a>(p: u8, met: u64, x: u8, left: &'a [u8; 128], right: &'a [u8; 128]) -> Hop
-    requires { EndsLow left.now right.now × (x < 128) }
-    ensures { result ≡ hop_of left.now right.now met p x }
-{
-    let i = x as usize;
-    let a = left[i];
-    let b = right[i];
-    if a == p {
-        if set::has(met, b) {
-            Hop::Off
+impl<'a> Network<'a> {
+    // The node to which span x leads from the node p, if it has an end there and the other is not yet met.
+    fn step_over(self, p: u8, met: u64, x: u8) -> Option<u8>
+        requires { x < 128 }
+        ensures { result ≡ hop_of self.entry.book.now.left self.entry.book.now.right met p x }
+    {
+        let a = self.book.left[x as usize];
+        let b = self.book.right[x as usize];
+        let far = if a == p {
+            b
+        } else if b == p {
+            a
         } else {
-            Hop::To(b)
-        }
-    } else if b == p {
-        if set::has(met, a) {
-            Hop::Off
-        } else {
-            Hop::To(a)
-        }
-    } else {
-        Hop::Off
-    }
-}
-
-// The span at which a walk from one node to another fails: the first with no end at the present node, or that leads to a node already met;
-// or the last, where all are passed and the walk ends elsewhere.
-pub(crate) fn first_stray<'a>(
-    route: &[u8],
-    from: u8,
-    to: u8,
-    left: &'a [u8; 128],
-    right: &'a [u8; 128],
-) -> Amiss
-    requires { EndsLow left.now right.now × (below 128 route.now ≡ true) × (from < 64) × (to < 64) }
-    ensures { (result ≡ stray_in left.now right.now (put 0 from) from 0 0 route.now to) × Within (length route.now) result }
-{
-    let mut met = set::put(0, from);
-    let mut p = from;
-    let mut last = 0;
-    let mut j = 0;
-    while j < route.len() {
-        let h = step_over(p, met, route[j], left, right);
-        let Hop::To(q) = h else {
-            return Amiss::At(j);
+            return None;
         };
-        met = set::put(met, q);
-        p = q;
-        last = j;
-        j += 1;
+        if set::has(met, far) { None } else { Some(far) }
     }
-    if p == to {
-        Amiss::Nowhere
-    } else {
-        Amiss::At(last)
+
+    // The place in the route of the span at which a walk from one node to another fails: the first with no end at the present node, or that leads
+    // to a node already met; or the last, where all are passed and the walk ends elsewhere.
+    pub(crate) fn first_stray(self, route: &[u8], from: u8, to: u8) -> Option<usize>
+        requires { (below 128 route.now ≡ true) × (from < 64) }
+        ensures { (result ≡ stray_in self.entry.book.now.left self.entry.book.now.right (put 0 from) from 0 0 route.now to) × Within (length route.now) result }
+    {
+        let mut met = set::put(0, from);
+        let mut p = from;
+        let mut last = 0;
+        for (j, x) in route.iter().enumerate() {
+            let Some(q) = self.step_over(p, met, *x) else {
+                return Some(j);
+            };
+            met = set::put(met, q);
+            p = q;
+            last = j;
+        }
+        if p == to { None } else { Some(last) }
     }
 }
 
-// The first span number of a route that is not below n.
-pub(crate) fn first_high(route: &[u8], n: u8) -> Amiss
-    ensures { HighAt n route.now result }
+// The place in a route of the first span number that is not below n.
+pub(crate) fn first_high(route: &[u8], n: u8) -> Option<usize>
+    ensures { result ≡ position (leb n) route.now }
 {
-    let mut i = 0;
-    while i < route.len() {
-        if n <= route[i] {
-            return Amiss::At(i);
-        }
-        i += 1;
-    }
-    Amiss::Nowhere
+    route.iter().position(|x| n <= *x)
 }

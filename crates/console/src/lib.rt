@@ -2,7 +2,7 @@
 // output, and the status of the call is told to the launcher on descriptor 3, while the program itself ends with 0.
 #![tactic(auto)]
 
-ghost use Rattle.std.specs.Prelude.{◌≡◌, ◌-◌, ◌≤◌, length, take, drop, IfOk, IsTrue, IsUtf8, MatchResult, OnOk};
+ghost use Rattle.std.specs.Prelude.{◌≡◌, ◌≤◌, length, IfOk, IsUtf8, MatchResult, OnOk};
 ghost use Rattle.std.specs.Io.KnownBytes.{Appends};
 ghost use Rattle.io.specs.Counts.{IsPrefixLen};
 
@@ -18,10 +18,12 @@ use std::{str, thread};
 // The descriptor that the status is told on.
 const STATUS: i32 = 3;
 
-// The statuses: the answer is given, and the book or a number is refused. Where there is no answer none is told.
-pub const SERVED: u8 = b'0';
-
-const REFUSED: u8 = b'1';
+// The statuses, each with the byte that it is told as: the answer is given, and the book or a number is refused. Where there is no answer none is told.
+#[derive(Clone, Copy)]
+pub enum Status {
+    Served = b'0' as isize,
+    Refused = b'1' as isize,
+}
 
 // The numbers that Linux gives to three errors: an argument that is missing, a name that is too long, and bytes that are no text.
 const MISSING: i32 = 22;
@@ -29,14 +31,6 @@ const MISSING: i32 = 22;
 const TOO_LONG: i32 = 36;
 
 const NO_TEXT: i32 = 84;
-
-// How far a book was read or a text was written: how many bytes, whether these are all that count, and why a call failed, where one did.
-#[derive(Clone, Copy)]
-pub struct Moved {
-    pub len: usize,
-    pub whole: bool,
-    pub failed: Option<Error>,
-}
 
 // Says something on the error output.
 pub fn say(rt: &HostRuntime, words: &[u8]) {
@@ -60,64 +54,36 @@ pub fn fail(rt: &HostRuntime, what: &[u8], why: Error) {
     say(rt, b"\n");
 }
 
-// Whether the call that just failed is to be made again: a signal came between, or nothing was ready yet. Others run first then.
-fn again(error: Error) -> bool {
-    if error.kind() == ErrorKind::WouldBlock {
-        thread::yield_now();
-        return true;
-    }
-    error.kind() == ErrorKind::Interrupted
-}
-
-// Why a call of `read` or `write` failed for good, given its error.
-fn has_failed(error: Error) -> Option<Error> {
-    if again(error) { None } else { Some(error) }
-}
-
-// Whether nothing more is to be read, given how many bytes a read brought, and for how many there was room: the input has ended, or the space is full.
-fn is_whole(n: usize, room: usize) -> bool {
-    n == 0 || n == room
-}
-
-// One read into the space behind its first `done` bytes.
-fn read_on<R: Read>(reader: &mut R, space: &mut [u8], done: usize) -> Moved
-    requires { done ≤ length space.old }
-    ensures { result.len ≤ length space.new }
-{
-    let rest = &mut space[done..];
-    let room = rest.len();
-    match reader.read(rest) {
-        Ok(n) => Moved {
-            len: done + n,
-            whole: is_whole(n, room),
-            failed: None,
-        },
-        Err(error) => Moved {
-            len: done,
-            whole: room == 0,
-            failed: has_failed(error),
-        },
+// Why a read or a write failed, unless it is to be made again: a signal came between, or nothing was ready yet. Others run first then.
+fn again(why: Error) -> Result<(), Error> {
+    match why.kind() {
+        ErrorKind::Interrupted => Ok(()),
+        ErrorKind::WouldBlock => {
+            thread::yield_now();
+            Ok(())
+        }
+        _ => Err(why),
     }
 }
 
-// Reads until the input ends, a read fails, or the space is full: no later byte changes what is said of a book. A proved loop has to end, and nothing says that
-// the input does: so the turns are counted, to a number that no run comes to.
-fn read_whole<R: Read>(reader: &mut R, space: &mut [u8]) -> Moved
-    ensures { IsPrefixLen result.len space.new }
+// Reads until the input ends, a read fails, or the space is full: no later byte changes what is said of a book. Answers how many bytes came. A proved loop has to
+// end, and nothing says that the input does: so the turns are counted, to a number that no run comes to.
+fn read_whole<R: Read>(reader: &mut R, space: &mut [u8]) -> Result<usize, Error>
+    ensures { IfOk result (λ n. IsPrefixLen n space.new) }
 {
     let mut len = 0;
     for turn in 0..u64::MAX {
-        let m = read_on(reader, space, len);
-        if m.whole || m.failed.is_some() {
-            return m;
+        match reader.read(&mut space[len..]) {
+            Ok(n) => {
+                len += n;
+                if n == 0 || len == space.len() {
+                    return Ok(len);
+                }
+            }
+            Err(why) => again(why)?,
         }
-        len = m.len;
     }
-    Moved {
-        len: len,
-        whole: false,
-        failed: Some(Error::from(ErrorKind::TimedOut)),
-    }
+    Err(Error::from(ErrorKind::TimedOut))
 }
 
 // Says that something cannot be read, and why.
@@ -133,21 +99,17 @@ fn cannot_read(rt: &HostRuntime, what: &[u8], name: &[u8], why: Error) {
 pub fn argument(rt: &HostRuntime, i: usize, space: &mut [u8]) -> Result<usize, Error>
     ensures { IfOk result (λ n. n ≤ length space.new) }
 {
-    match rt.arg(i, space) {
-        Ok(n) => Ok(n),
-        Err(FillError::NotPresent) => Err(Error::from_raw_os_error(MISSING)),
-        Err(FillError::TooLong) => Err(Error::from_raw_os_error(TOO_LONG)),
-    }
+    rt.arg(i, space).map_err(|why| Error::from_raw_os_error(match why {
+        FillError::NotPresent => MISSING,
+        FillError::TooLong => TOO_LONG,
+    }))
 }
 
 // A file's name as text, which the library wants it to be.
 fn name_text(name: &[u8]) -> Result<&str, Error>
     ensures { MatchResult result (λ text. (text.now ≡ name.now) × IsUtf8 name.now) (λ why. ¬ (IsUtf8 name.now)) }
 {
-    match str::from_utf8(name) {
-        Ok(text) => Ok(text),
-        Err(_) => Err(Error::from_raw_os_error(NO_TEXT)),
-    }
+    str::from_utf8(name).map_err(|_| Error::from_raw_os_error(NO_TEXT))
 }
 
 // Opens a file or a folder to be read.
@@ -170,130 +132,73 @@ pub fn create(rt: &HostRuntime, name: &[u8]) -> Result<File, Error>
 }
 
 // Reads the file that has the name.
-fn read_named(rt: &HostRuntime, name: &[u8], space: &mut [u8]) -> Moved
-    ensures { result.len ≤ length space.new }
+fn read_named(rt: &HostRuntime, name: &[u8], space: &mut [u8]) -> Result<usize, Error>
+    ensures { IfOk result (λ n. IsPrefixLen n space.new) }
 {
-    match open_read(rt, name) {
-        Ok(mut file) => read_whole(&mut file, space),
-        Err(why) => Moved {
-            len: 0,
-            whole: false,
-            failed: Some(why),
-        },
-    }
+    let mut file = open_read(rt, name)?;
+    read_whole(&mut file, space)
 }
 
-// Reads the file that argument i names, which the sentence about a failure calls `what`.
-pub fn read_file(rt: &HostRuntime, i: usize, what: &[u8], space: &mut [u8]) -> Moved
-    ensures { IsPrefixLen result.len space.new }
+// Reads the file that argument i names, which the sentence about a failure calls `what`. Answers how many bytes came; or why none count, and has said so.
+pub fn read_file(rt: &HostRuntime, i: usize, what: &[u8], space: &mut [u8]) -> Result<usize, Error>
+    ensures { IfOk result (λ n. IsPrefixLen n space.new) }
 {
     let mut name = [0u8; 4096];
-    match argument(rt, i, &mut name) {
-        Ok(k) => {
-            let m = read_named(rt, &name[..k], space);
-            if let Some(why) = m.failed {
-                cannot_read(rt, what, &name[..k], why);
-            }
-            m
-        }
-        Err(why) => {
-            cannot_read(rt, what, b"", why);
-            Moved {
-                len: 0,
-                whole: false,
-                failed: Some(why),
-            }
-        }
-    }
+    let k = argument(rt, i, &mut name).inspect_err(|why| cannot_read(rt, what, b"", *why))?;
+    let name = &name[..k];
+    read_named(rt, name, space).inspect_err(|why| cannot_read(rt, what, name, *why))
 }
 
-// Reads standard input.
-pub fn read_input(rt: &HostRuntime, space: &mut [u8]) -> Moved
-    ensures { IsPrefixLen result.len space.new }
+// Reads standard input, as `read_file` reads a file.
+pub fn read_input(rt: &HostRuntime, space: &mut [u8]) -> Result<usize, Error>
+    ensures { IfOk result (λ n. IsPrefixLen n space.new) }
 {
-    let m = read_whole(&mut rt.stdin(), space);
-    if let Some(why) = m.failed {
-        fail(rt, b"gristvalley: standard input cannot be read", why);
-    }
-    m
+    read_whole(&mut rt.stdin(), space).inspect_err(|why| fail(
+        rt,
+        b"gristvalley: standard input cannot be read",
+        *why,
+    ))
 }
 
-// Why a write that took n bytes failed, where it did: one that takes nothing has.
-fn took_nothing(n: usize) -> Option<Error> {
-    if n == 0 {
-        Some(Error::from(ErrorKind::WriteZero))
-    } else {
-        None
-    }
-}
-
-// One write of the bytes from `done` on. A write that takes nothing has failed.
-fn write_on<W: Write>(writer: &mut W, bytes: &[u8], done: usize) -> Moved
-    requires { done ≤ length bytes.now }
-    ensures within { result.len ≤ length bytes.now }
-    ensures onward { done ≤ result.len }
-    ensures whole { IsTrue result.whole → result.len ≡ length bytes.now }
-    ensures written { Appends (W.contents writer.old) (W.contents writer.new) (take (result.len - done) (drop done bytes.now)) }
-{
-    let rest = &bytes[done..];
-    match writer.write(rest) {
-        Ok(n) => Moved {
-            len: done + n,
-            whole: n == rest.len(),
-            failed: took_nothing(n),
-        },
-        Err(error) => Moved {
-            len: done,
-            whole: rest.len() == 0,
-            failed: has_failed(error),
-        },
-    }
-}
-
-// Writes all of the bytes, or answers why that was not done.
+// Writes all of the bytes, or answers why that was not done. The library's `write_all` fails where nothing is ready; here the write is made again.
 pub fn put<W: Write>(writer: &mut W, bytes: &[u8]) -> Result<(), Error>
     ensures { OnOk result (Appends (W.contents writer.old) (W.contents writer.new) bytes.now) }
 {
-    let mut done = 0;
+    let mut rest = bytes;
     for turn in 0..u64::MAX {
-        let m = write_on(writer, bytes, done);
-        if m.whole {
+        if rest.is_empty() {
             return Ok(());
         }
-        if let Some(why) = m.failed {
-            return Err(why);
+        match writer.write(rest) {
+            Ok(0) => return Err(Error::from(ErrorKind::WriteZero)),
+            Ok(n) => rest = &rest[n..],
+            Err(why) => again(why)?,
         }
-        done = m.len;
     }
     Err(Error::from(ErrorKind::TimedOut))
 }
 
-// Prints a text, all of it, or answers why that was not done.
+// Prints a text, all of it, or answers why that was not done. Of a text that says more than its struct has nothing is printed, so `as_bytes`, which gives what is
+// there, will not do.
 fn print(rt: &HostRuntime, t: Text) -> Result<(), Error> {
     let bytes = t.bytes;
-    let n = t.len as usize;
+    let n = usize::from(t.len);
     if n > bytes.len() {
         return Err(Error::from(ErrorKind::InvalidData));
     }
     put(&mut rt.stdout(), &bytes[..n])
 }
 
-// Tells the launcher the status of the call.
+// Tells the launcher the status of the call, as its byte.
 pub fn tell(status: u8) {
-    let word = [status];
-    io::write_all(STATUS, &word);
+    io::write_all(STATUS, &[status]);
 }
 
 // Prints an answer, and tells the status once all of it is written.
 pub fn answer(rt: &HostRuntime, t: Text) {
     match print(rt, t) {
         Err(why) => fail(rt, b"gristvalley: the answer could not be printed", why),
-        Ok(()) => {
-            if commands::is_refusal(t) {
-                tell(REFUSED);
-            } else {
-                tell(SERVED);
-            }
-        }
+        Ok(()) if commands::is_refusal(t) => tell(Status::Refused as u8),
+        Ok(()) => tell(Status::Served as u8),
     }
 }

@@ -1,30 +1,19 @@
 -- The nine numbers of an answer, and the slice that they are stored in: docs/FACE.md.
-use Rattle.std.specs.Prelude.{ℕ, Bool, cond, List, [], ◌∷◌, ◌++◌, length, drop, leb}
-use Rattle.book.specs.Format.{Reading}
-use Rattle.book.specs.Memory.{shown}
-use Rattle.book.specs.Writing.{written_number, written_place, written_length}
+use Rattle.std.specs.Prelude.{ℕ, Bool, cond, List, [], ◌∷◌, ◌++◌, length, drop, leb, Option, Result, Ok, Err}
+use Rattle.book.specs.Format.{Reading, good, refused}
+use Rattle.book.specs.Memory.{book_of, fault_number}
 use Rattle.book.specs.declared.Book.{Book}
-use Rattle.book.specs.declared.Answer.{Answer}
-use Rattle.book.specs.declared.Answer.TheVariants as answer
-use Rattle.book.specs.declared.write.Written.{Written}
-use Rattle.book.specs.declared.write.Written.TheVariants as written
-use Rattle.judgement.specs.Answers.{judged_numbers, asked_numbers}
-use Rattle.judgement.specs.Sites.{closed_numbers}
+use Rattle.book.specs.declared.refusal.Refusal.{Refusal}
+use Rattle.judgement.specs.Answers.{verdict_numbers}
 use Rattle.judgement.specs.declared.Verdict.{Verdict}
 use Rattle.judgement.specs.declared.Verdict.TheVariants.{Over, Split, Cut, Okay}
 use Rattle.judgement.specs.declared.Judged.{Judged}
-use Rattle.judgement.specs.declared.Judged.TheVariants as judged
 use Rattle.judgement.specs.declared.Contracted.{Contracted}
-use Rattle.judgement.specs.declared.Contracted.TheVariants as contracted
-use Rattle.judgement.specs.declared.Site.TheVariants as site
-use Rattle.judgement.specs.declared.Closed.{Closed}
-use Rattle.judgement.specs.declared.Closed.TheVariants as closed
+use Rattle.judgement.specs.declared.Down.{Down}
 use Rattle.judgement.specs.declared.Asked.{Asked}
-use Rattle.judgement.specs.declared.Asked.TheVariants as asked
-use Rattle.search.specs.Answers.{searched_numbers}
+use Rattle.search.specs.declared.Finding.{Finding}
 use Rattle.search.specs.declared.Finding.TheVariants.{Found, None, More}
-use Rattle.search.specs.declared.Searched.{Searched}
-use Rattle.search.specs.declared.Searched.TheVariants as searched
+use Rattle.std.specs.declared.option.Option.TheVariants as option
 
 -- F1: whether there is room for nine numbers
 abbrev pub roomy : List ℕ → Bool
@@ -38,13 +27,18 @@ stored told out = cond (roomy out) (told ++ drop 9 out) out
 abbrev pub refused_row : ℕ → ℕ → List ℕ
 refused_row k p = 0 ∷ k ∷ p ∷ 0 ∷ 0 ∷ 0 ∷ 0 ∷ 0 ∷ 0 ∷ []
 
+-- F3: the numbers of an operation's answer: of a refusal, or of what it tells
+abbrev pub answered_row : {A : Type 0} → (A → List ℕ) → Result A Refusal → List ℕ
+answered_row row (Ok a) = row a
+answered_row row (Err r) = refused_row (fault_number r.fault) r.place
+
 -- F5: what the book has
-abbrev pub reply_row : Answer → Book → List ℕ
-reply_row answer.Good b = 1 ∷ 0 ∷ 0 ∷ b.nodes ∷ b.spans ∷ b.lightpaths ∷ b.alternatives ∷ b.stations ∷ 0 ∷ []
-reply_row (answer.Refused k p) b = refused_row k p
+abbrev pub book_row : Book → List ℕ
+book_row b = 1 ∷ 0 ∷ 0 ∷ b.nodes ∷ b.spans ∷ b.lightpaths ∷ b.alternatives ∷ b.stations ∷ 0 ∷ []
 
 abbrev pub read_row : Reading → List ℕ
-read_row g = reply_row (shown g).answer (shown g).book
+read_row (good m) = book_row (book_of m)
+read_row (refused k p) = refused_row k p
 
 -- F6: the verdict: span, load, limit and side, and two numbers behind them
 abbrev pub verdict_kind : Verdict → ℕ
@@ -55,56 +49,50 @@ verdict_kind Okay = 4
 
 abbrev pub verdict_row : Verdict → ℕ → ℕ → List ℕ
 verdict_row v a b =
-    let n = judged_numbers (judged.Told v a b) in
+    let n = verdict_numbers v a b in
     verdict_kind v ∷ n.number ∷ n.place ∷ n.span ∷ n.load ∷ n.limit ∷ n.side ∷ n.f ∷ n.fc ∷ []
 
 -- F6, F7: the verdict and the score
-abbrev pub judged_row : Judged → List ℕ
-judged_row (judged.Told v f c) = verdict_row v f c
-judged_row (judged.Refused k p) = refused_row k p
+abbrev pub judgement_row : Judged → List ℕ
+judgement_row j = verdict_row j.verdict j.f j.fc
+
+abbrev pub judged_row : Result Judged Refusal → List ℕ
+judged_row = answered_row judgement_row
 
 -- F11: the verdict of the second engine, and how many merges it made
-abbrev pub contracted_row : Contracted → List ℕ
-contracted_row (contracted.Told v n) = verdict_row v n 0
-contracted_row (contracted.Refused k p) = refused_row k p
+abbrev pub contraction_row : Contracted → List ℕ
+contraction_row c = verdict_row c.verdict c.merges 0
+
+abbrev pub contracted_row : Result Contracted Refusal → List ℕ
+contracted_row = answered_row contraction_row
 
 -- F12: what closing a node does: the node and the side
-abbrev pub closed_kind : Closed → ℕ
-closed_kind (closed.Told (site.Down v d)) = 1
-closed_kind (closed.Told site.Okay) = 2
-closed_kind (closed.Refused k p) = 0
+abbrev pub site_row : Option Down → List ℕ
+site_row (option.Some d) = 1 ∷ 0 ∷ 0 ∷ d.node ∷ d.side ∷ 0 ∷ 0 ∷ 0 ∷ 0 ∷ []
+site_row option.None = 2 ∷ 0 ∷ 0 ∷ 0 ∷ 0 ∷ 0 ∷ 0 ∷ 0 ∷ 0 ∷ []
 
-abbrev pub closed_row : Closed → List ℕ
-closed_row a =
-    let n = closed_numbers a in
-    closed_kind a ∷ n.number ∷ n.place ∷ n.node ∷ n.side ∷ 0 ∷ 0 ∷ 0 ∷ 0 ∷ []
+abbrev pub closed_row : Result (Option Down) Refusal → List ℕ
+closed_row = answered_row site_row
 
 -- F8, F13: the question about a span, and about a set of spans
-abbrev pub asked_kind : Asked → ℕ
-asked_kind (asked.Told d t) = 1
-asked_kind (asked.Refused k p) = 0
+abbrev pub side_row : Asked → List ℕ
+side_row a = 1 ∷ 0 ∷ 0 ∷ a.side ∷ cond a.whole 1 0 ∷ 0 ∷ 0 ∷ 0 ∷ 0 ∷ []
 
-abbrev pub asked_row : Asked → List ℕ
-asked_row a =
-    let n = asked_numbers a in
-    asked_kind a ∷ n.number ∷ n.place ∷ n.side ∷ cond n.all 1 0 ∷ 0 ∷ 0 ∷ 0 ∷ 0 ∷ []
+abbrev pub asked_row : Result Asked Refusal → List ℕ
+asked_row = answered_row side_row
 
 -- F9: what was found
-abbrev pub searched_kind : Searched → ℕ
-searched_kind (searched.Told (Found n t)) = 1
-searched_kind (searched.Told (None t)) = 2
-searched_kind (searched.Told (More b t)) = 3
-searched_kind (searched.Refused k p) = 0
+abbrev pub finding_row : Finding → List ℕ
+finding_row (Found n t) = 1 ∷ 0 ∷ 0 ∷ n ∷ 0 ∷ t ∷ 0 ∷ 0 ∷ 0 ∷ []
+finding_row (None t) = 2 ∷ 0 ∷ 0 ∷ 0 ∷ 0 ∷ t ∷ 0 ∷ 0 ∷ 0 ∷ []
+finding_row (More b t) = 3 ∷ 0 ∷ 0 ∷ 0 ∷ b ∷ t ∷ 0 ∷ 0 ∷ 0 ∷ []
 
-abbrev pub searched_row : Searched → List ℕ
-searched_row a =
-    let n = searched_numbers a in
-    searched_kind a ∷ n.number ∷ n.place ∷ n.choice ∷ n.limit ∷ n.total ∷ 0 ∷ 0 ∷ 0 ∷ []
+abbrev pub searched_row : Result Finding Refusal → List ℕ
+searched_row = answered_row finding_row
 
 -- F10: the length of what was written
-abbrev pub written_kind : Written → ℕ
-written_kind (written.Length l) = 1
-written_kind (written.Refused k p) = 0
+abbrev pub length_row : ℕ → List ℕ
+length_row l = 1 ∷ 0 ∷ 0 ∷ l ∷ 0 ∷ 0 ∷ 0 ∷ 0 ∷ 0 ∷ []
 
-abbrev pub written_row : Written → List ℕ
-written_row a = written_kind a ∷ written_number a ∷ written_place a ∷ written_length a ∷ 0 ∷ 0 ∷ 0 ∷ 0 ∷ 0 ∷ []
+abbrev pub written_row : Result ℕ Refusal → List ℕ
+written_row = answered_row length_row

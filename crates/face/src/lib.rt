@@ -20,11 +20,8 @@ use numbers::store;
 pub extern "C" fn gristvalley_read(s: &[u8], out: &mut [u64]) -> bool
     ensures { (result ≡ roomy out.old) × (out.new ≡ stored (read_row (reading s.now)) out.old) }
 {
-    let reply = book::read(s);
-    let answer = reply.answer;
-    let b = reply.book;
-    let row = numbers::read_row(answer, b);
-    store(out, row)
+    let answer = book::read(s);
+    store(out, answer)
 }
 
 // Judges choice n of a book, and scores it.
@@ -33,8 +30,7 @@ pub extern "C" fn gristvalley_judge(s: &[u8], n: u32, out: &mut [u64]) -> bool
     ensures { (result ≡ roomy out.old) × (out.new ≡ stored (judged_row (judged_of (chosen_of (reading s.now) n))) out.old) }
 {
     let answer = judgement::judge(s, n);
-    let row = numbers::judged_row(answer);
-    store(out, row)
+    store(out, answer)
 }
 
 // Judges choice n of a book by contraction.
@@ -43,8 +39,7 @@ pub extern "C" fn gristvalley_contract(s: &[u8], n: u32, out: &mut [u64]) -> boo
     ensures { (result ≡ roomy out.old) × (out.new ≡ stored (contracted_row (contracted_of (chosen_of (reading s.now) n))) out.old) }
 {
     let answer = judgement::contract(s, n);
-    let row = numbers::contracted_row(answer);
-    store(out, row)
+    store(out, answer)
 }
 
 // Judges choice n of a book with its nodes closed one at a time.
@@ -53,8 +48,7 @@ pub extern "C" fn gristvalley_close(s: &[u8], n: u32, out: &mut [u64]) -> bool
     ensures { (result ≡ roomy out.old) × (out.new ≡ stored (closed_row (closed_of (chosen_of (reading s.now) n))) out.old) }
 {
     let answer = judgement::close(s, n);
-    let row = numbers::closed_row(answer);
-    store(out, row)
+    store(out, answer)
 }
 
 // Asks about span x in choice n of a book.
@@ -63,8 +57,7 @@ pub extern "C" fn gristvalley_ask(s: &[u8], n: u32, x: u32, out: &mut [u64]) -> 
     ensures { (result ≡ roomy out.old) × (out.new ≡ stored (asked_row (asked_of (chosen_of (reading s.now) n) x)) out.old) }
 {
     let answer = judgement::ask(s, n, x);
-    let row = numbers::asked_row(answer);
-    store(out, row)
+    store(out, answer)
 }
 
 // Asks about a set of spans in choice n of a book: bit i of `low` is for span i, and bit i of `high` for span 64 + i.
@@ -79,8 +72,7 @@ pub extern "C" fn gristvalley_ask_set(
     ensures { (result ≡ roomy out.old) × (out.new ≡ stored (asked_row (asked_set_of (chosen_of (reading s.now) n) low high)) out.old) }
 {
     let answer = judgement::ask_set(s, n, low, high);
-    let row = numbers::asked_row(answer);
-    store(out, row)
+    store(out, answer)
 }
 
 // Searches the choices of a book, as many as the limit says.
@@ -89,8 +81,7 @@ pub extern "C" fn gristvalley_search(s: &[u8], limit: u32, out: &mut [u64]) -> b
     ensures { (result ≡ roomy out.old) × (out.new ≡ stored (searched_row (searched_of (reading s.now) limit)) out.old) }
 {
     let answer = search::search(s, limit);
-    let row = numbers::searched_row(answer);
-    store(out, row)
+    store(out, answer)
 }
 
 // Writes choice n of a book into `bytes`, whether or not there is room for the numbers of the answer.
@@ -99,6 +90,5 @@ pub extern "C" fn gristvalley_write(s: &[u8], n: u32, bytes: &mut [u8], out: &mu
     ensures { (result ≡ roomy out.old) × (out.new ≡ stored (written_row (written_of (writing s.now n (length bytes.old)))) out.old) × (bytes.new ≡ buffer (writing s.now n (length bytes.old)) bytes.old) }
 {
     let answer = book::write::write(s, n, bytes);
-    let row = numbers::written_row(answer);
-    store(out, row)
+    store(out, answer)
 }

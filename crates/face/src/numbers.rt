@@ -1,58 +1,85 @@
 // The nine numbers of each answer, and storing them.
-ghost use Rattle.std.specs.Prelude.{◌≡◌};
-ghost use Rattle.judgement.specs.declared.Closed.TheVariants as closed;
-ghost use Rattle.search.specs.declared.Searched.TheVariants as searched;
-ghost use Rattle.face.specs.Numbers.{roomy, stored, refused_row, reply_row, verdict_row, judged_row, contracted_row, closed_row, asked_row, searched_row, written_row};
+ghost use Rattle.std.specs.Prelude.{◌≡◌, ℕ, List};
+ghost use Rattle.face.specs.Numbers.{roomy, stored, refused_row, answered_row, book_row, verdict_row, judgement_row, contraction_row, site_row, side_row, finding_row, length_row};
+ghost use Rattle.book.specs.Memory.{fault_number};
 
-use book::write::Written;
-use book::{Answer, Book};
-use judgement::{Asked, Closed, Contracted, Judged, Site, Verdict};
-use search::{Finding, Searched};
+use book::Book;
+use book::refusal::Refusal;
+use judgement::{Asked, Contracted, Down, Judged, Verdict};
+use search::Finding;
 
-// Stores the numbers at the front of the slice, and tells whether there was room; where there is none, nothing is stored.
-pub(crate) fn store(out: &mut [u64], told: [u64; 9]) -> bool
-    ensures { (result ≡ roomy out.old) × (out.new ≡ stored told out.old) }
+// The numbers of an answer: a kind, the number and place of a refusal, and what the answer carries.
+pub(crate) type Row = [u64; 9];
+
+// What is told in nine numbers.
+pub(crate) trait Told {
+    ghost row_of: { Self → List ℕ };
+
+    fn row(self) -> Row
+        ensures { result ≡ row_of self };
+}
+
+// Stores the numbers of an answer at the front of the slice, and tells whether there was room; where there is none, nothing is stored.
+pub(crate) fn store<A: Told>(out: &mut [u64], answer: A) -> bool
+    ensures { (result ≡ roomy out.old) × (out.new ≡ stored (A.row_of answer) out.old) }
 {
+    let told = answer.row();
     if out.len() < 9 {
         return false;
     }
-    let mut i = 0;
-    while i < 9 {
-        out[i] = told[i];
-        i += 1;
-    }
+    out[..9].copy_from_slice(&told);
     true
 }
 
-// A refusal.
-fn refused_row(no: u8, place: usize) -> [u64; 9]
-    ensures { result ≡ refused_row no place }
-{
-    [0, no as u64, place as u64, 0, 0, 0, 0, 0, 0]
+// Each operation answers with what it tells, or with a refusal.
+impl<A: Told> Told for Result<A, Refusal> {
+    ghost row_of = { answered_row A.row_of };
+
+    fn row(self) -> Row {
+        match self {
+            Ok(answer) => answer.row(),
+            Err(refusal) => refused_row(refusal),
+        }
+    }
 }
 
-// The reader's answer, and what the book has.
-pub(crate) fn read_row(answer: Answer, b: Book) -> [u64; 9]
-    ensures { result ≡ reply_row answer b }
+fn refused_row(refusal: Refusal) -> Row
+    ensures { result ≡ refused_row (fault_number refusal.fault) refusal.place }
 {
-    match answer {
-        Answer::Good => [
+    [
+        0,
+        refusal.fault.number() as u64,
+        refusal.place as u64,
+        0,
+        0,
+        0,
+        0,
+        0,
+        0,
+    ]
+}
+
+// What the book has.
+impl Told for Book {
+    ghost row_of = { book_row };
+
+    fn row(self) -> Row {
+        [
             1,
             0,
             0,
-            b.nodes as u64,
-            b.spans as u64,
-            b.lightpaths as u64,
-            b.alternatives as u64,
-            b.stations,
+            self.nodes as u64,
+            self.spans as u64,
+            self.lightpaths as u64,
+            self.alternatives as u64,
+            self.stations,
             0,
-        ],
-        Answer::Refused(no, place) => refused_row(no, place),
+        ]
     }
 }
 
 // A verdict, with two numbers behind it.
-fn verdict_row(v: Verdict, a: u64, b: u64) -> [u64; 9]
+fn verdict_row(v: Verdict, a: u64, b: u64) -> Row
     ensures { result ≡ verdict_row v a b }
 {
     match v {
@@ -63,83 +90,63 @@ fn verdict_row(v: Verdict, a: u64, b: u64) -> [u64; 9]
     }
 }
 
-// The answer of `judge`.
-pub(crate) fn judged_row(answer: Judged) -> [u64; 9]
-    ensures { result ≡ judged_row answer }
-{
-    match answer {
-        Judged::Told(v, f, c) => verdict_row(v, f as u64, c as u64),
-        Judged::Refused(no, place) => refused_row(no, place),
+// The verdict with its scores.
+impl Told for Judged {
+    ghost row_of = { judgement_row };
+
+    fn row(self) -> Row {
+        verdict_row(self.verdict, self.f as u64, self.fc as u64)
     }
 }
 
-// The answer of `contract`.
-pub(crate) fn contracted_row(answer: Contracted) -> [u64; 9]
-    ensures { result ≡ contracted_row answer }
-{
-    match answer {
-        Contracted::Told(v, merges) => verdict_row(v, merges as u64, 0),
-        Contracted::Refused(no, place) => refused_row(no, place),
+// The verdict of the second engine, and how many merges it made.
+impl Told for Contracted {
+    ghost row_of = { contraction_row };
+
+    fn row(self) -> Row {
+        verdict_row(self.verdict, self.merges as u64, 0)
     }
 }
 
 // What closing a node does.
-fn site_row(a: Site) -> [u64; 9]
-    ensures { result ≡ closed_row (closed.Told a) }
-{
-    match a {
-        Site::Down(v, d) => [1, 0, 0, v as u64, d, 0, 0, 0, 0],
-        Site::Okay => [2, 0, 0, 0, 0, 0, 0, 0, 0],
+impl Told for Option<Down> {
+    ghost row_of = { site_row };
+
+    fn row(self) -> Row {
+        match self {
+            Some(down) => [1, 0, 0, down.node as u64, down.side, 0, 0, 0, 0],
+            None => [2, 0, 0, 0, 0, 0, 0, 0, 0],
+        }
     }
 }
 
-// The answer of `close`.
-pub(crate) fn closed_row(answer: Closed) -> [u64; 9]
-    ensures { result ≡ closed_row answer }
-{
-    match answer {
-        Closed::Told(a) => site_row(a),
-        Closed::Refused(no, place) => refused_row(no, place),
-    }
-}
+// The side with a span or a set of spans out.
+impl Told for Asked {
+    ghost row_of = { side_row };
 
-// The answer of `ask` and of `ask_set`.
-pub(crate) fn asked_row(answer: Asked) -> [u64; 9]
-    ensures { result ≡ asked_row answer }
-{
-    match answer {
-        Asked::Told(d, all) => [1, 0, 0, d, all as u64, 0, 0, 0, 0],
-        Asked::Refused(no, place) => refused_row(no, place),
+    fn row(self) -> Row {
+        [1, 0, 0, self.side, self.whole as u64, 0, 0, 0, 0]
     }
 }
 
 // What was found.
-fn finding_row(f: Finding) -> [u64; 9]
-    ensures { result ≡ searched_row (searched.Told f) }
-{
-    match f {
-        Finding::Found(n, total) => [1, 0, 0, n as u64, 0, total as u64, 0, 0, 0],
-        Finding::None(total) => [2, 0, 0, 0, 0, total as u64, 0, 0, 0],
-        Finding::More(limit, total) => [3, 0, 0, 0, limit as u64, total as u64, 0, 0, 0],
+impl Told for Finding {
+    ghost row_of = { finding_row };
+
+    fn row(self) -> Row {
+        match self {
+            Finding::Found(n, total) => [1, 0, 0, n as u64, 0, total as u64, 0, 0, 0],
+            Finding::None(total) => [2, 0, 0, 0, 0, total as u64, 0, 0, 0],
+            Finding::More(limit, total) => [3, 0, 0, 0, limit as u64, total as u64, 0, 0, 0],
+        }
     }
 }
 
-// The answer of `search`.
-pub(crate) fn searched_row(answer: Searched) -> [u64; 9]
-    ensures { result ≡ searched_row answer }
-{
-    match answer {
-        Searched::Told(f) => finding_row(f),
-        Searched::Refused(no, place) => refused_row(no, place),
-    }
-}
+// The length of what was written.
+impl Told for usize {
+    ghost row_of = { length_row };
 
-// The writer's answer.
-pub(crate) fn written_row(answer: Written) -> [u64; 9]
-    ensures { result ≡ written_row answer }
-{
-    match answer {
-        Written::Length(l) => [1, 0, 0, l as u64, 0, 0, 0, 0, 0],
-        Written::Refused(no, place) => refused_row(no, place),
+    fn row(self) -> Row {
+        [1, 0, 0, self as u64, 0, 0, 0, 0, 0]
     }
 }

@@ -12,104 +12,55 @@ mod found;
 mod hex;
 mod judged;
 mod say;
+mod tried;
 
-use book::Answer;
-use say::{number, print_refusal, word};
+use say::{print_counts, print_refusal, word};
 
 // The descriptor of standard input.
 const STDIN_FILENO: i32 = 0;
 
 // Reads a book and prints the line of its answer.
 fn print_answer(s: &[u8]) {
-    let reply = book::read(s);
-    let answer = reply.answer;
-    match answer {
-        Answer::Good => {
+    match book::read(s) {
+        Ok(b) => {
             word(b"GOOD");
-            number(reply.book.nodes as u64);
-            number(reply.book.spans as u64);
-            number(reply.book.lightpaths as u64);
-            number(reply.book.alternatives as u64);
+            print_counts(&b);
         }
-        Answer::Refused(no, place) => print_refusal(no, place),
+        Err(r) => print_refusal(r),
     }
     word(b"\n");
 }
 
-// What a line asks of its book: what reading answers, the listing of its choices, that of their judgement, or a search.
-#[derive(Clone, Copy)]
-enum Wanted {
-    Reading,
-    Choices,
-    Judgement,
-    Search,
-}
-
-// Prints what is asked of a book.
-fn print_asked(s: &[u8], wanted: Wanted) {
-    match wanted {
-        Wanted::Reading => print_answer(s),
-        Wanted::Choices => choices::print_book(s),
-        Wanted::Judgement => judged::print_book(s),
-        Wanted::Search => found::print_search(s),
-    }
-}
-
-// Prints what is asked of the book in the first `n` bytes of `space`, or `?` where it has fewer than `n`.
-fn print_first(space: &[u8], n: usize, wanted: Wanted) {
-    if n <= space.len() {
-        print_asked(&space[0..n], wanted);
-    } else {
-        word(b"?\n");
-    }
-}
-
 // Prints what is asked of a book in hex, or of the empty book.
-fn print_book(line: &[u8], wanted: Wanted) {
-    if line.len() == 1 && line[0] == b'.' {
-        print_asked(b"", wanted);
+fn print_book<F: Fn(&[u8])>(line: &[u8], print: F)
+    requires { F.IsAlwaysCallable print }
+{
+    if let [b'.'] = line {
+        print(b"");
         return;
     }
     let mut space = io::buffer();
-    let n = hex::unhex(line, &mut space);
-    print_first(&space, n, wanted);
+    match hex::unhex(line, &mut space) {
+        Some(n) => print(&space[..n]),
+        None => word(b"?\n"),
+    }
 }
 
 // Prints what one line of the input asks for.
 fn print_line(line: &[u8]) {
-    if line.len() == 0 {
-        return;
+    match line {
+        [] | [b'#', ..] => {}
+        [b'w', b' ', book @ ..] => print_book(book, choices::print_book),
+        [b'j', b' ', book @ ..] => print_book(book, judged::print_book),
+        [b's', b' ', book @ ..] => print_book(book, found::print_search),
+        _ => print_book(line, print_answer),
     }
-    if line[0] == b'#' {
-        return;
-    }
-    if line.len() > 2 && line[1] == b' ' {
-        if line[0] == b'w' {
-            print_book(&line[2..], Wanted::Choices);
-            return;
-        }
-        if line[0] == b'j' {
-            print_book(&line[2..], Wanted::Judgement);
-            return;
-        }
-        if line[0] == b's' {
-            print_book(&line[2..], Wanted::Search);
-            return;
-        }
-    }
-    print_book(line, Wanted::Reading);
 }
 
 // Goes through the lines of the text. The last may have no line end.
 fn print_lines(text: &[u8]) {
-    let mut at = 0;
-    while at < text.len() {
-        let end = hex::line_end(text, at);
-        print_line(&text[at..end]);
-        if end == text.len() {
-            return;
-        }
-        at = end + 1;
+    for line in text.split(|b| *b == b'\n') {
+        print_line(line);
     }
 }
 

@@ -1,4 +1,7 @@
-// What the program writes: words, numbers, and refusals.
+// What the program writes: words, numbers, the counts of a book, and refusals.
+use book::Book;
+use book::refusal::Refusal;
+
 // The descriptor of standard output.
 pub(crate) const STDOUT_FILENO: i32 = 1;
 
@@ -8,14 +11,21 @@ pub(crate) fn word(b: &[u8]) {
 }
 
 // Writes a blank and a number in decimal.
-pub(crate) fn number(n: u64) {
+pub(crate) fn number(n: impl Into<u64>) {
     word(b" ");
-    io::print_decimal(STDOUT_FILENO, n);
+    io::print_decimal(STDOUT_FILENO, n.into());
+}
+
+// Writes how many nodes, spans, lightpaths and alternatives a book has.
+pub(crate) fn print_counts(b: &Book) {
+    for n in [b.nodes, b.spans, b.lightpaths, b.alternatives] {
+        number(n);
+    }
 }
 
 // Writes `BAD` with the number and the place of a refusal.
-pub(crate) fn print_refusal(no: u8, place: usize) {
+pub(crate) fn print_refusal(r: Refusal) {
     word(b"BAD");
-    number(no as u64);
-    number(place as u64);
+    number(r.fault.number());
+    number(r.place as u64);
 }

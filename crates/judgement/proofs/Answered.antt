@@ -18,10 +18,12 @@ use Rattle.book.specs.Writing.{chosen_of}
 use Rattle.book.proofs.Bits.{bit_of_zero, bit_one, bit_other, has_true, has_false, true_has, bit_lt}
 use Rattle.book.proofs.Readers.{Bytes}
 use Rattle.judgement.specs.declared.Asked.{Asked}
-use Rattle.judgement.specs.declared.Asked.TheVariants.{Told, Refused}
+use Rattle.std.specs.Prelude.{Result, Ok, Err}
+use Rattle.book.specs.Memory.{refusal}
+use Rattle.book.specs.declared.refusal.Refusal.{Refusal}
 use Rattle.judgement.specs.Judgement.{network, without, side, whole, stations}
 use Rattle.judgement.specs.Cuts.{AllJoined}
-use Rattle.judgement.specs.Answers.{asked_of, asked_set_of, asked_numbers}
+use Rattle.judgement.specs.Answers.{asked, asked_of, asked_set_of, asked_numbers}
 use Rattle.judgement.specs.Withdrawn.{none_of, up_with, PartOf, also, in_words, beyond}
 use Rattle.judgement.proofs.Alike.{side_alike}
 use Rattle.judgement.proofs.Sets.{has_or, bit-and}
@@ -58,9 +60,9 @@ module _ (low high x : ℕ) (few : x < 128) (one : (y : ℕ) → in_words low hi
   pub ask_set_one : (g : Reading) → asked_set_of g low high ≡ asked_of g x
   ask_set_one (good m) =
       rw (beyond_one (length m.spans), side_one m)
-      (turned (ltb x (length m.spans)) (Refused 13 0) (Told (side m (without m x)) (whole m (without m x))))
+      (turned (ltb x (length m.spans)) (Err (refusal 13 0)) (Ok (asked (side m (without m x)) (whole m (without m x)))))
     where
-      turned : (t : Bool) (a b : Asked) → cond (not t) a b ≡ cond t b a
+      turned : (t : Bool) (a b : Result Asked Refusal) → cond (not t) a b ≡ cond t b a
       turned true a b = refl
       turned false a b = refl
   ask_set_one (refused k p) = refl
@@ -113,22 +115,22 @@ words_also low high l h x = go (dec_lt x 64)
 
 -- what it means that all stations are told to be joined
 module _ (m : RouteBook) (fits : well_formed m ≡ true) (low high : ℕ) where
-  pub told_joined : {d : ℕ} → asked_set_of (good m) low high ≡ Told d true
+  pub told_joined : {d : ℕ} → asked_set_of (good m) low high ≡ Ok (asked d true)
       → (beyond (in_words low high) (length m.spans) ≡ false) × AllJoined m (up_with m (in_words low high)) × (d ≡ stations m)
   told_joined {d} e = go (beyond (in_words low high) (length m.spans)) refl e
     where
       up : ℕ → Bool
       up = up_with m (in_words low high)
 
-      go : (t : Bool) → beyond (in_words low high) (length m.spans) ≡ t → cond t (Refused 13 0) (Told (side m up) (whole m up)) ≡ Told d true
+      go : (t : Bool) → beyond (in_words low high) (length m.spans) ≡ t → cond t (Err (refusal 13 0)) (Ok (asked (side m up) (whole m up))) ≡ Ok (asked d true)
           → (beyond (in_words low high) (length m.spans) ≡ false) × AllJoined m up × (d ≡ stations m)
-      go true b w = absurd (false≢true (ap (λ (r : Asked). (asked_numbers r).all) w))
+      go true b w = absurd (false≢true (ap (λ (r : Result Asked Refusal). (asked_numbers r).all) w))
       go false b w =
-          let all = ap (λ (r : Asked). (asked_numbers r).all) w in
-          (b, (whole_joined m fits up).0 all, sym (ap (λ (r : Asked). (asked_numbers r).side) w) ∙ eqb-true (side m up) (stations m) all)
+          let all = ap (λ (r : Result Asked Refusal). (asked_numbers r).all) w in
+          (b, (whole_joined m fits up).0 all, sym (ap (λ (r : Result Asked Refusal). (asked_numbers r).side) w) ∙ eqb-true (side m up) (stations m) all)
 
   pub joined_told : beyond (in_words low high) (length m.spans) ≡ false → AllJoined m (up_with m (in_words low high))
-      → asked_set_of (good m) low high ≡ Told (stations m) true
+      → asked_set_of (good m) low high ≡ Ok (asked (stations m) true)
   joined_told b all =
       let up = up_with m (in_words low high) in
       let w = (whole_joined m fits up).1 all in
@@ -142,25 +144,25 @@ module _ (m : RouteBook) (fits : well_formed m ≡ true) (low high low' high' : 
       go x true h z = absurd (false≢true (sym z ∙ f x h))
       go x false h z = refl
 
-  part_told : {d : ℕ} → asked_set_of (good m) low high ≡ Told d true → asked_set_of (good m) low' high' ≡ Told d true
+  part_told : {d : ℕ} → asked_set_of (good m) low high ≡ Ok (asked d true) → asked_set_of (good m) low' high' ≡ Ok (asked d true)
   part_told e =
       let j = told_joined m fits low high e in
-      joined_told m fits low' high' (part_within (length m.spans) j.0) (withdrawn_joined m f j.1) ∙ ap (λ (d : ℕ). Told d true) (sym j.2)
+      joined_told m fits low' high' (part_within (length m.spans) j.0) (withdrawn_joined m f j.1) ∙ ap (λ (d : ℕ). Ok (asked d true)) (sym j.2)
 
 -- THE LAWS (a) and (b) of the answers: r and r' are what `ask_set` answers of the same bytes and the same choice
-module _ (s : List ℕ) (n : ℕ) (h : Bytes s) (low high low' high' : ℕ) (f : PartOf (in_words low' high') (in_words low high)) (r r' : Asked) where
+module _ (s : List ℕ) (n : ℕ) (h : Bytes s) (low high low' high' : ℕ) (f : PartOf (in_words low' high') (in_words low high)) (r r' : Result Asked Refusal) where
   pub withdrawn_answer : r ≡ asked_set_of (chosen_of (reading s) n) low high → r' ≡ asked_set_of (chosen_of (reading s) n) low' high'
-      → {d : ℕ} → r ≡ Told d true → r' ≡ Told d true
+      → {d : ℕ} → r ≡ Ok (asked d true) → r' ≡ Ok (asked d true)
   withdrawn_answer met met' {d} e = met' ∙ go (chosen_of (reading s) n) refl (sym met ∙ e)
     where
-      go : (g : Reading) → chosen_of (reading s) n ≡ g → asked_set_of g low high ≡ Told d true → asked_set_of g low' high' ≡ Told d true
+      go : (g : Reading) → chosen_of (reading s) n ≡ g → asked_set_of g low high ≡ Ok (asked d true) → asked_set_of g low' high' ≡ Ok (asked d true)
       go (good m) q w = part_told m (fits_all s n h m q) low high low' high' f w
-      go (refused k p) q w = absurd (false≢true (ap (λ (a : Asked). (asked_numbers a).all) w))
+      go (refused k p) q w = absurd (false≢true (ap (λ (a : Result Asked Refusal). (asked_numbers a).all) w))
 
-module _ (s : List ℕ) (n : ℕ) (h : Bytes s) (low high low' high' : ℕ) (f : PartOf (in_words low' high') (in_words low high)) (l k : ℕ) (r r' : Asked) where
+module _ (s : List ℕ) (n : ℕ) (h : Bytes s) (low high low' high' : ℕ) (f : PartOf (in_words low' high') (in_words low high)) (l k : ℕ) (r r' : Result Asked Refusal) where
   pub withdrawn_loss_answer : r ≡ asked_set_of (chosen_of (reading s) n) (bit_or low l) (bit_or high k)
       → r' ≡ asked_set_of (chosen_of (reading s) n) (bit_or low' l) (bit_or high' k)
-      → {d : ℕ} → r ≡ Told d true → r' ≡ Told d true
+      → {d : ℕ} → r ≡ Ok (asked d true) → r' ≡ Ok (asked d true)
   withdrawn_loss_answer =
       withdrawn_answer s n h (bit_or low l) (bit_or high k) (bit_or low' l) (bit_or high' k)
       (λ x e. words_also low high l k x ∙ also_less (in_words l k) f x (sym (words_also low' high' l k x) ∙ e)) r r'

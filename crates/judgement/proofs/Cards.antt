@@ -17,24 +17,22 @@ use Rattle.book.proofs.Cards.{E}
 use Rattle.judgement.specs.Network.{brought, grown, swept, settled, side_of}
 use Rattle.judgement.specs.Judgement.{sum, load, first_of}
 use Rattle.judgement.specs.Withdrawn.{none_of}
-use Rattle.judgement.specs.Answers.{judged_of, judged_numbers, asked_of, asked_set_of}
-use Rattle.judgement.specs.Sites.{closed_of}
+use Rattle.judgement.specs.Answers.{judged, judged_of, judged_numbers, asked, asked_of, asked_set_of}
+use Rattle.judgement.specs.Sites.{down_at, closed_of}
 use Rattle.judgement.specs.declared.Verdict.TheVariants.{Over, Split, Cut, Okay}
-use Rattle.judgement.specs.declared.Judged.TheVariants as judged
-use Rattle.judgement.specs.declared.Asked.TheVariants as asked
-use Rattle.judgement.specs.declared.Site.TheVariants as site
-use Rattle.judgement.specs.declared.Closed.TheVariants as closed
+use Rattle.std.specs.Prelude.{Ok, Err, None}
+use Rattle.book.specs.Memory.{refusal}
 
 -- the loads of the five spans of a book
 abbrev loads_of : Reading → List ℕ
 loads_of (good m) = load m 0 ∷ load m 1 ∷ load m 2 ∷ load m 3 ∷ load m 4 ∷ []
 loads_of (refused k p) = []
 
-pub P1 : (loads_of (chosen_of (reading E) 0) ≡ 1 ∷ 1 ∷ 2 ∷ 0 ∷ 1 ∷ []) × (judged_of (chosen_of (reading E) 0) ≡ judged.Told (Cut 2 7) 2 0)
+pub P1 : (loads_of (chosen_of (reading E) 0) ≡ 1 ∷ 1 ∷ 2 ∷ 0 ∷ 1 ∷ []) × (judged_of (chosen_of (reading E) 0) ≡ Ok (judged (Cut 2 7) 2 0))
 unfolding reading book each opened below some count different walks length_fits span_ends lightpath_ends follows bit has put stations_into padded movable_from product digits digit_for alternatives_of rerouted brought grown swept settled side_of sum first_of count_trailing_zeros
 P1 = (refl, refl)
 
-pub P2 : (loads_of (chosen_of (reading E) 1) ≡ 1 ∷ 1 ∷ 1 ∷ 1 ∷ 0 ∷ []) × (judged_of (chosen_of (reading E) 1) ≡ judged.Told Okay 0 0) × (judged_of (chosen_of (reading E) 2) ≡ judged.Refused 12 0)
+pub P2 : (loads_of (chosen_of (reading E) 1) ≡ 1 ∷ 1 ∷ 1 ∷ 1 ∷ 0 ∷ []) × (judged_of (chosen_of (reading E) 1) ≡ Ok (judged Okay 0 0)) × (judged_of (chosen_of (reading E) 2) ≡ Err (refusal 12 0))
 unfolding reading book each opened below some count different walks length_fits span_ends lightpath_ends follows bit has put stations_into padded movable_from product digits digit_for alternatives_of rerouted brought grown swept settled side_of sum first_of count_trailing_zeros
 P2 = (refl, refl, refl)
 
@@ -46,7 +44,7 @@ P3 = (refl, refl)
 abbrev E' : List ℕ
 E' = set E 32 1
 
-pub P4 : (judged_of (chosen_of (reading E') 0) ≡ judged.Told (Over 2 2 1) 2 1) × (judged_of (chosen_of (reading E') 1) ≡ judged.Told Okay 0 0)
+pub P4 : (judged_of (chosen_of (reading E') 0) ≡ Ok (judged (Over 2 2 1) 2 1)) × (judged_of (chosen_of (reading E') 1) ≡ Ok (judged Okay 0 0))
 unfolding reading book each opened below some count different walks length_fits span_ends lightpath_ends follows bit has put stations_into padded movable_from product digits digit_for alternatives_of rerouted brought grown swept settled side_of sum first_of count_trailing_zeros
 P4 = (refl, refl)
 
@@ -62,35 +60,35 @@ pair x y =
 abbrev alone : ℕ → List ℕ
 alone n = 0x48 ∷ 0x44 ∷ n ∷ 0 ∷ 0 ∷ 0 ∷ stations_of n ++ (0x45 ∷ 0x4e ∷ [])
 
-pub P7 : judged_of (chosen_of (reading (alone 1)) 0) ≡ judged.Told Okay 0 0
+pub P7 : judged_of (chosen_of (reading (alone 1)) 0) ≡ Ok (judged Okay 0 0)
 unfolding reading book each opened below some count different walks length_fits span_ends lightpath_ends follows bit has put stations_into padded movable_from product digits digit_for alternatives_of rerouted brought grown swept settled side_of sum first_of count_trailing_zeros
 P7 = refl
 
-pub P8 : judged_of (chosen_of (reading (alone 2)) 0) ≡ judged.Told (Split 1) 0 0
+pub P8 : judged_of (chosen_of (reading (alone 2)) 0) ≡ Ok (judged (Split 1) 0 0)
 unfolding reading book each opened below some count different walks length_fits span_ends lightpath_ends follows bit has put stations_into padded movable_from product digits digit_for alternatives_of rerouted brought grown swept settled side_of sum first_of count_trailing_zeros
 P8 = refl
 
-pub P9 : (judged_of (chosen_of (reading (pair 0 0)) 0) ≡ judged.Told (Cut 0 1) 2 0) × (judged_of (chosen_of (reading (pair 0 1)) 0) ≡ judged.Told Okay 0 0)
+pub P9 : (judged_of (chosen_of (reading (pair 0 0)) 0) ≡ Ok (judged (Cut 0 1) 2 0)) × (judged_of (chosen_of (reading (pair 0 1)) 0) ≡ Ok (judged Okay 0 0))
 unfolding reading book each opened below some count different walks length_fits span_ends lightpath_ends follows bit has put stations_into padded movable_from product digits digit_for alternatives_of rerouted brought grown swept settled side_of sum first_of count_trailing_zeros
 P9 = (refl, refl)
 
 -- the question, also where the choice is over, and its refusals in their order
-pub asks : (asked_of (chosen_of (reading E) 0) 0 ≡ asked.Told 15 true) × (asked_of (chosen_of (reading E') 0) 2 ≡ asked.Told 7 false)
-    × (asked_of (chosen_of (reading E) 0) 5 ≡ asked.Refused 13 0) × (asked_of (chosen_of (reading E) 2) 5 ≡ asked.Refused 12 0) × (asked_of (chosen_of (reading []) 2) 5 ≡ asked.Refused 1 0)
+pub asks : (asked_of (chosen_of (reading E) 0) 0 ≡ Ok (asked 15 true)) × (asked_of (chosen_of (reading E') 0) 2 ≡ Ok (asked 7 false))
+    × (asked_of (chosen_of (reading E) 0) 5 ≡ Err (refusal 13 0)) × (asked_of (chosen_of (reading E) 2) 5 ≡ Err (refusal 12 0)) × (asked_of (chosen_of (reading []) 2) 5 ≡ Err (refusal 1 0))
 unfolding reading book each opened below some count different walks length_fits span_ends lightpath_ends follows bit has put stations_into padded movable_from product digits digit_for alternatives_of rerouted brought grown swept settled side_of sum first_of count_trailing_zeros
 asks = (refl, refl, refl, refl, refl)
 
 -- the question about sets in choice 1: no span, spans 0 and 3, spans 0 and 1; a number that no span has, in the first word and in the second; and no such choice
-pub sets : (asked_set_of (chosen_of (reading E) 1) 0 0 ≡ asked.Told 15 true) × (asked_set_of (chosen_of (reading E) 1) 9 0 ≡ asked.Told 1 false)
-    × (asked_set_of (chosen_of (reading E) 1) 3 0 ≡ asked.Told 13 false) × (asked_set_of (chosen_of (reading E) 1) 33 0 ≡ asked.Refused 13 0)
-    × (asked_set_of (chosen_of (reading E) 1) 0 1 ≡ asked.Refused 13 0) × (asked_set_of (chosen_of (reading E) 2) 0 1 ≡ asked.Refused 12 0)
+pub sets : (asked_set_of (chosen_of (reading E) 1) 0 0 ≡ Ok (asked 15 true)) × (asked_set_of (chosen_of (reading E) 1) 9 0 ≡ Ok (asked 1 false))
+    × (asked_set_of (chosen_of (reading E) 1) 3 0 ≡ Ok (asked 13 false)) × (asked_set_of (chosen_of (reading E) 1) 33 0 ≡ Err (refusal 13 0))
+    × (asked_set_of (chosen_of (reading E) 1) 0 1 ≡ Err (refusal 13 0)) × (asked_set_of (chosen_of (reading E) 2) 0 1 ≡ Err (refusal 12 0))
 unfolding reading book each opened below some count different walks length_fits span_ends lightpath_ends follows bit has put stations_into padded movable_from product digits digit_for alternatives_of rerouted brought grown swept settled side_of sum first_of count_trailing_zeros none_of
 sets = (refl, refl, refl, refl, refl, refl)
 
 -- a site down: both choices of E, and no such choice; three stations that nothing joins; two of them, where one is left, and one, where none is
-pub sites : (closed_of (chosen_of (reading E) 0) ≡ closed.Told (site.Down 2 3)) × (closed_of (chosen_of (reading E) 1) ≡ closed.Told site.Okay)
-    × (closed_of (chosen_of (reading E) 2) ≡ closed.Refused 12 0) × (closed_of (chosen_of (reading (alone 3)) 0) ≡ closed.Told (site.Down 0 2))
-    × (closed_of (chosen_of (reading (alone 2)) 0) ≡ closed.Told site.Okay) × (closed_of (chosen_of (reading (alone 1)) 0) ≡ closed.Told site.Okay)
+pub sites : (closed_of (chosen_of (reading E) 0) ≡ Ok (down_at 2 3)) × (closed_of (chosen_of (reading E) 1) ≡ Ok None)
+    × (closed_of (chosen_of (reading E) 2) ≡ Err (refusal 12 0)) × (closed_of (chosen_of (reading (alone 3)) 0) ≡ Ok (down_at 0 2))
+    × (closed_of (chosen_of (reading (alone 2)) 0) ≡ Ok None) × (closed_of (chosen_of (reading (alone 1)) 0) ≡ Ok None)
 unfolding reading book each opened below some count different walks length_fits span_ends lightpath_ends follows bit has put stations_into padded movable_from product digits digit_for alternatives_of rerouted brought grown swept settled side_of sum first_of count_trailing_zeros met_on
 sites = (refl, refl, refl, refl, refl, refl)
 
@@ -99,12 +97,12 @@ abbrev between : List ℕ
 between =
     0x48 ∷ 0x44 ∷ 3 ∷ 2 ∷ 1 ∷ 0 ∷ stations_of 2 ++ (0x4e ∷ 0x44 ∷ 0 ∷ 0x53 ∷ 0x50 ∷ 0 ∷ 2 ∷ 1 ∷ 0x53 ∷ 0x50 ∷ 2 ∷ 1 ∷ 1 ∷ 0x4c ∷ 0x50 ∷ 0 ∷ 1 ∷ 2 ∷ 0 ∷ 1 ∷ 0x45 ∷ 0x4e ∷ [])
 
-pub passed_through : closed_of (chosen_of (reading between) 0) ≡ closed.Told (site.Down 2 1)
+pub passed_through : closed_of (chosen_of (reading between) 0) ≡ Ok (down_at 2 1)
 unfolding reading book each opened below some count different walks length_fits span_ends lightpath_ends follows bit has put stations_into padded movable_from product digits digit_for alternatives_of rerouted brought grown swept settled side_of sum first_of count_trailing_zeros met_on
 passed_through = refl
 
 -- with two stations every site may stand though a span's loss parts them
-pub two_stations : (judged_of (chosen_of (reading (pair 0 0)) 0) ≡ judged.Told (Cut 0 1) 2 0) × (closed_of (chosen_of (reading (pair 0 0)) 0) ≡ closed.Told site.Okay)
+pub two_stations : (judged_of (chosen_of (reading (pair 0 0)) 0) ≡ Ok (judged (Cut 0 1) 2 0)) × (closed_of (chosen_of (reading (pair 0 0)) 0) ≡ Ok None)
 unfolding reading book each opened below some count different walks length_fits span_ends lightpath_ends follows bit has put stations_into padded movable_from product digits digit_for alternatives_of rerouted brought grown swept settled side_of sum first_of count_trailing_zeros met_on
 two_stations = (refl, refl)
 
@@ -115,6 +113,6 @@ hub =
     ++ (0x53 ∷ 0x50 ∷ 0 ∷ 1 ∷ 1 ∷ 0x53 ∷ 0x50 ∷ 0 ∷ 1 ∷ 1 ∷ 0x53 ∷ 0x50 ∷ 0 ∷ 2 ∷ 1 ∷ 0x53 ∷ 0x50 ∷ 0 ∷ 2 ∷ 1
     ∷ 0x4c ∷ 0x50 ∷ 0 ∷ 1 ∷ 1 ∷ 0 ∷ 0x4c ∷ 0x50 ∷ 0 ∷ 1 ∷ 1 ∷ 1 ∷ 0x4c ∷ 0x50 ∷ 0 ∷ 2 ∷ 1 ∷ 2 ∷ 0x4c ∷ 0x50 ∷ 0 ∷ 2 ∷ 1 ∷ 3 ∷ 0x45 ∷ 0x4e ∷ [])
 
-pub hub_down : (judged_of (chosen_of (reading hub) 0) ≡ judged.Told Okay 0 0) × (closed_of (chosen_of (reading hub) 0) ≡ closed.Told (site.Down 0 2))
+pub hub_down : (judged_of (chosen_of (reading hub) 0) ≡ Ok (judged Okay 0 0)) × (closed_of (chosen_of (reading hub) 0) ≡ Ok (down_at 0 2))
 unfolding reading book each opened below some count different walks length_fits span_ends lightpath_ends follows bit has put stations_into padded movable_from product digits digit_for alternatives_of rerouted brought grown swept settled side_of sum first_of count_trailing_zeros met_on
 hub_down = (refl, refl)

@@ -50,17 +50,17 @@ or_turn false false true h = refl
 or_turn false false false h = refl
 
 module _ (net : Network) (low high : List ℕ) where
-  touched_more : (ks : List ℕ) (t : Trail) (q : ℕ) → has (gathered net low high ks t).touched q ≡ (touches net ks q || has t.touched q)
+  touched_more : (ks : List ℕ) (t : Trail) (q : ℕ) → has (gathered net low high ks t).touched.mask q ≡ (touches net ks q || has t.touched.mask q)
   unfolding gathered touches
   touched_more [] t q = refl
   touched_more (k ∷ ks) t q =
       touched_more ks (with_path net low high t k) q
       ∙ ap (λ (b : Bool). touches net ks q || b)
-      (has_put (put t.touched (net.from k)) (net.to k) q ∙ ap (λ (b : Bool). eqb (net.to k) q || b) (has_put t.touched (net.from k) q))
-      ∙ or_turn (touches net ks q) (eqb (net.to k) q) (eqb (net.from k) q) (has t.touched q)
+      (has_put (put t.touched.mask (net.from k)) (net.to k) q ∙ ap (λ (b : Bool). eqb (net.to k) q || b) (has_put t.touched.mask (net.from k) q))
+      ∙ or_turn (touches net ks q) (eqb (net.to k) q) (eqb (net.from k) q) (has t.touched.mask q)
 
   -- THE LAW of the pieces that a ring touches
-  pub touched_is : (k q : ℕ) → has (trail_of net low high k).touched q ≡ touches net (ring_by net low high k) q
+  pub touched_is : (k q : ℕ) → has (trail_of net low high k).touched.mask q ≡ touches net (ring_by net low high k) q
   unfolding trail_of
   touched_is k q =
       touched_more (ring_by net low high k) (empty_trail net low high (net.to k)) q

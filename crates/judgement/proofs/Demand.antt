@@ -18,11 +18,12 @@ use Rattle.book.proofs.Written.{such_a_choice}
 use Rattle.book.proofs.ChoiceRead.{ChoiceIs, such, no_such, choice_is}
 use Rattle.judgement.specs.declared.Verdict.TheVariants.{Okay}
 use Rattle.judgement.specs.declared.Judged.{Judged}
-use Rattle.judgement.specs.declared.Judged.TheVariants.{Told}
+use Rattle.std.specs.Prelude.{Result, Ok}
+use Rattle.book.specs.declared.refusal.Refusal.{Refusal}
 use Rattle.judgement.specs.Judgement.{verdict}
 use Rattle.judgement.specs.Cuts.{Survives, CutForm}
 use Rattle.judgement.specs.Meaning.{NoneOver}
-use Rattle.judgement.specs.Answers.{judged_of}
+use Rattle.judgement.specs.Answers.{judged, judgement_of, judged_of}
 use Rattle.judgement.proofs.Cuts.{same_forms}
 use Rattle.judgement.proofs.Verdicts.{okay_exact}
 use Rattle.judgement.proofs.Scores.{okay_scores}
@@ -37,7 +38,7 @@ pub record Meets (Form : RouteBook → Type 0) (s : List ℕ) (n : ℕ) : Type 0
   pub survives : Form (chosen book n)
 
 -- OK comes with scores of nought
-pub okay_noughts : (m : RouteBook) → well_formed m ≡ true → verdict m ≡ Okay → judged_of (good m) ≡ Told Okay 0 0
+pub okay_noughts : (m : RouteBook) → well_formed m ≡ true → verdict m ≡ Okay → judged_of (good m) ≡ Ok (judged Okay 0 0)
 okay_noughts m fits e = let z = okay_scores m fits e in rw (e, z.0, z.1)
 
 module _ (s : List ℕ) (n : ℕ) where
@@ -52,19 +53,20 @@ module _ (s : List ℕ) (n : ℕ) where
     survives = f (chosen d.book n) (choice_fits d.book n d.fits) d.survives;
   }
 
-  module _ (h : Bytes s) (r : Judged) (met : r ≡ judged_of (chosen_of (reading s) n)) where
-    pub okay_joined : (r ≡ Told Okay 0 0) ↔ Meets Survives s n
+  module _ (h : Bytes s) (r : Result Judged Refusal) (met : r ≡ judged_of (chosen_of (reading s) n)) where
+    pub okay_joined : (r ≡ Ok (judged Okay 0 0)) ↔ Meets Survives s n
     okay_joined = ((λ e. to (choice_is s n) (sym met ∙ e)), from)
       where
-        to : {g : Reading} → ChoiceIs s n g → judged_of g ≡ Told Okay 0 0 → Meets Survives s n
+        to : {g : Reading} → ChoiceIs s n g → judged_of g ≡ Ok (judged Okay 0 0) → Meets Survives s n
         to (such m q l) e =
             let o = reading_only s m h q in
-            let okay : verdict (chosen m n) ≡ Okay = cc in
+            let same : judgement_of (chosen m n) ≡ judged Okay 0 0 = cc in
+            let okay : verdict (chosen m n) ≡ Okay = ap (λ (j : Judged). j.verdict) same in
             let p = (okay_exact (chosen m n) (choice_fits m n o.1)).0 okay in
             record { book = m; fits = o.1; written = o.0; below = l; none_over = p.0; survives = p.1 }
         to (no_such x) e = let z : ◌≡◌ {A = ℕ} 0 1 = cc in absurd (omega arith)
 
-        from : Meets Survives s n → r ≡ Told Okay 0 0
+        from : Meets Survives s n → r ≡ Ok (judged Okay 0 0)
         from d =
             let m = d.book in
             let reads : reading s ≡ good m = subst (λ (b : List ℕ). reading b ≡ good m) d.written (reading_back m d.fits) in
@@ -72,12 +74,15 @@ module _ (s : List ℕ) (n : ℕ) where
             ∙ okay_noughts (chosen m n) (choice_fits m n d.fits) ((okay_exact (chosen m n) (choice_fits m n d.fits)).1 (d.none_over, d.survives))
 
     -- no OK is left out: it never comes with another score
-    pub okay_always : {f c : ℕ} → r ≡ Told Okay f c → r ≡ Told Okay 0 0
+    pub okay_always : {f c : ℕ} → r ≡ Ok (judged Okay f c) → r ≡ Ok (judged Okay 0 0)
     okay_always {f} {c} e = met ∙ go (choice_is s n) (sym met ∙ e)
       where
-        go : {g : Reading} → ChoiceIs s n g → judged_of g ≡ Told Okay f c → judged_of g ≡ Told Okay 0 0
-        go (such m q l) w = let okay : verdict (chosen m n) ≡ Okay = cc in okay_noughts (chosen m n) (choice_fits m n (reading_only s m h q).1) okay
+        go : {g : Reading} → ChoiceIs s n g → judged_of g ≡ Ok (judged Okay f c) → judged_of g ≡ Ok (judged Okay 0 0)
+        go (such m q l) w =
+            let same : judgement_of (chosen m n) ≡ judged Okay f c = cc in
+            let okay : verdict (chosen m n) ≡ Okay = ap (λ (j : Judged). j.verdict) same in
+            okay_noughts (chosen m n) (choice_fits m n (reading_only s m h q).1) okay
         go (no_such x) w = let z : ◌≡◌ {A = ℕ} 0 1 = cc in absurd (omega arith)
 
-    pub okay_means : (r ≡ Told Okay 0 0) ↔ Meets CutForm s n
+    pub okay_means : (r ≡ Ok (judged Okay 0 0)) ↔ Meets CutForm s n
     okay_means = Iff.trans okay_joined (in_form (λ c w. (same_forms c w).0), in_form (λ c w. (same_forms c w).1))

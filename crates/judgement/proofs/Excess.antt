@@ -14,11 +14,11 @@ use Rattle.book.specs.Memory.{book_of}
 use Rattle.book.specs.Choice.{lightpath_at}
 use Rattle.book.proofs.Bounds.{counts}
 use Rattle.book.proofs.Lightpaths.{column_at}
+use Rattle.std.specs.Prelude.{Option, None}
 use Rattle.judgement.specs.declared.load.Overload.{Overload}
-use Rattle.judgement.specs.declared.load.Overload.TheVariants.{At, Nowhere}
 use Rattle.judgement.specs.Judgement.{rides, sum, one, load, limit, first_of, score_fc}
 use Rattle.judgement.specs.Arrays.{load_in, limit_in}
-use Rattle.judgement.specs.Holding.{Held, Loads}
+use Rattle.judgement.specs.Holding.{Held, Loads, is_over, over_at, over_in}
 use Rattle.judgement.proofs.First.{first_alike}
 use Rattle.judgement.proofs.Sums.{sum_alike, sum_le, sum_longer, sum_most, sum_swap, among_most}
 use Rattle.judgement.proofs.Loads.{route_short, load-in}
@@ -45,20 +45,19 @@ module _ (m : RouteBook) (fits : well_formed m ≡ true) where
 
 -- what the loads say of span x
 module _ (b : Book) (loads : List ℕ) where
-  abbrev pub over_in : ℕ → Bool
-  over_in x = ltb (limit_in b x) (get_or loads x 0)
+  abbrev pub over_by : ℕ → Bool
+  over_by x = ltb (limit_in b x) (get_or loads x 0)
 
-  abbrev pub at_in : ℕ → Overload
-  at_in x = At x (get_or loads x 0) (limit_in b x)
+  abbrev pub at_by : ℕ → Option Overload
+  at_by x = over_at x (get_or loads x 0) (limit_in b x)
 
   abbrev pub excess_in : ℕ → ℕ
   excess_in x = get_or loads x 0 - limit_in b x
 
   module _ (all : Loads b loads) where
-    pub over_is : b.spans ≤ 128 → first_of over_in at_in Nowhere b.spans 0
-        ≡ first_of (λ x. ltb (limit_in b x) (load_in b x)) (λ x. At x (load_in b x) (limit_in b x)) Nowhere b.spans 0
-    over_is few = first_alike over_in (λ x. ltb (limit_in b x) (load_in b x)) at_in (λ x. At x (load_in b x) (limit_in b x)) Nowhere b.spans 0
-        (λ x p q. let e = all.each x (omega arith) in (ap (ltb (limit_in b x)) e, ap (λ (l : ℕ). At x l (limit_in b x)) e))
+    pub over_is : b.spans ≤ 128 → first_of over_by at_by None b.spans 0 ≡ first_of (is_over b) (over_in b) None b.spans 0
+    over_is few = first_alike over_by (is_over b) at_by (over_in b) None b.spans 0
+        (λ x p q. let e = all.each x (omega arith) in (ap (ltb (limit_in b x)) e, ap (λ (l : ℕ). over_at x l (limit_in b x)) e))
 
     module _ (m : RouteBook) (is : b ≡ book_of m) (fits : well_formed m ≡ true) where
       pub excess_is : sum excess_in b.spans ≡ score_fc m

@@ -6,17 +6,16 @@ use mathlib.Core.List.{List, map}
 use mathlib.Core.Logic.{◌⊎◌, inl, inr}
 use mathlib.Core.Bool.{Bool, true, false, cond, ◌||◌, false≢true}
 use native.Mathlib.Numerals.{add-one}
-use native.Mathlib.Decide.{ℕ_discrete, dec_lt}
+use native.Mathlib.Decide.{dec_lt}
 use native.Mathlib.Omega.{arith}
 use lib.Count.{count_trailing_zeros, trailing_le}
 use lib.Dec.{eqb}
-use lib.ListN.{length, get_or, set, replicate, length-set, length-replicate, get_or-eq_default}
-use lib.Seq.{get_or-set_same, get_or-set_other}
+use lib.ListN.{length, get_or, get_or-eq_default}
 use borrow.Author.Tests.{eqb-true}
 use Rattle.book.specs.Book.{Lightpath, RouteBook, well_formed}
-use Rattle.book.specs.Bits.{has, put_if}
+use Rattle.book.specs.Bits.{has, put}
 use Rattle.book.specs.Memory.{padded, book_of}
-use Rattle.book.proofs.Bits.{has_true, has_false}
+use Rattle.book.proofs.Bits.{has_true, has_false, true_has}
 use Rattle.book.proofs.Bounds.{counts, ends_lt, ends_stations}
 use Rattle.book.proofs.Lightpaths.{column_at}
 use Rattle.book.proofs.Writers.{no_lightpath}
@@ -25,44 +24,36 @@ use Rattle.judgement.specs.Judgement.{network, stations, lowest}
 use Rattle.judgement.specs.Pieces.{over, labels}
 use Rattle.judgement.specs.Ways.{lowest_of}
 use Rattle.judgement.specs.Contraction.{touches, ring_of, merges, lowest_label, merged}
-use Rattle.judgement.specs.Inside.{net_of, Fits}
+use Rattle.judgement.specs.Inside.{net_of}
 use Rattle.judgement.specs.Merge.{Table, relabelled, Labelled, trail_of}
 use Rattle.judgement.proofs.First.{there, nowhere, first_only}
-use Rattle.judgement.proofs.Sets.{low_in, low_below}
+use Rattle.judgement.proofs.Sets.{low_in, low_below, low_lt}
 use Rattle.judgement.proofs.Stations.{lowest_lt}
 use Rattle.judgement.proofs.Tests.{or_inv}
 use Rattle.judgement.proofs.Lowest.{lowest_passes}
 use Rattle.judgement.proofs.Merges.{merged_le}
 use Rattle.judgement.proofs.Merging.{Under, nothing, one_more, under}
 use Rattle.judgement.proofs.Carried.{touched_is}
+use Rattle.judgement.proofs.Elements.{table_low}
 
-module _ (n : ℕ) (f : ℕ → ℕ) where
-  pub filled_start : Table n f 0 (replicate n 0)
-  filled_start = record { long = length-replicate {A = ℕ} n 0; each = λ i l. absurd (omega arith) }
+-- a label that is made the lowest of a ring is no greater than it was
+pub relabelled_low : (s q : ℕ) → q < 64 → relabelled s (count_trailing_zeros 64 s) q < 64
+relabelled_low s q l = go (has s q) refl
+  where
+    go : (b : Bool) → has s q ≡ b → cond b (count_trailing_zeros 64 s) q < 64
+    go true e = omega (arith, l, low_lt 64 s q l (true_has s q e))
+    go false e = l
 
-  pub filled_next : {k v : ℕ} {r : List ℕ} → k < n → v ≡ f k → Table n f k r → Table n f (k + 1) (set r k v)
-  filled_next {k} {v} {r} l e now = record { long = length-set r k v ∙ now.long; each = λ i q. go i q (ℕ_discrete i k) }
-    where
-      go : (i : ℕ) → i < k + 1 → Dec (i ≡ k) → get_or (set r k v) i 0 ≡ f i
-      go i q (yes z) = ap (λ (j : ℕ). get_or (set r k v) j 0) z ∙ get_or-set_same r k v 0 (omega (arith, now.long)) ∙ e ∙ ap f (sym z)
-      go i q (no z) = get_or-set_other r k i v 0 z ∙ now.each i (omega arith)
+-- no node, and one more
+pub labels_none : (t : ℕ → Bool) (piece : ℕ → ℕ) → labels t piece 0 ≡ 0
+unfolding labels
+labels_none t piece = refl
 
-  pub filled_done : {k : ℕ} {r : List ℕ} → n ≤ k → Table n f k r → Table n f n r
-  filled_done l now = record { long = now.long; each = λ i q. now.each i (omega arith) }
-
--- one node more
-pub labels_next : (t : ℕ → Bool) (piece : ℕ → ℕ) (k : ℕ) → labels t piece (k + 1) ≡ put_if (t k) (labels t piece k) (piece k)
+pub labels_next : (t : ℕ → Bool) (piece : ℕ → ℕ) (k : ℕ) → labels t piece (k + 1) ≡ cond (t k) (put (labels t piece k) (piece k)) (labels t piece k)
 unfolding labels
 labels_next t piece k = ap (labels t piece) (add-one k)
 
 module _ (m : RouteBook) (fits : well_formed m ≡ true) (piece : ℕ → ℕ) {label : List ℕ} (now : Labelled m piece label) where
-  pub label_low : (i : ℕ) → get_or label i 0 < 64
-  label_low i = go (dec_lt i 64)
-    where
-      go : Dec (i < 64) → get_or label i 0 < 64
-      go (yes l) = omega (arith, now.same i l, now.falls i)
-      go (no n) = omega (arith, get_or-eq_default label 0 {n = i} (omega (arith, now.long)))
-
   -- the label of an end of any lightpath, also of one that there is not: its ends are 0
   module _ (f : Lightpath → ℕ) (z : f no_lightpath ≡ 0) (low : (k : ℕ) → k < length m.lightpaths → f (get_or m.lightpaths k no_lightpath) < 64)
       {r : List ℕ} (t : Table 96 (λ k. get_or label (get_or (padded 96 (map f m.lightpaths)) k 0) 0) 96 r) where
@@ -88,26 +79,17 @@ module _ (m : RouteBook) (fits : well_formed m ≡ true) (piece : ℕ → ℕ) {
             ap piece (none_there k (omega (arith, counts m fits)))
             ∙ omega (arith, now.falls 0, get_or-eq_default r 0 {n = k} (omega (arith, t.long)))
 
-    end_low : (k : ℕ) → get_or r k 0 < 64
-    end_low k = omega (arith, end_is k, now.falls (f (get_or m.lightpaths k no_lightpath)), all_low k)
+  -- THE LAW of the network: with labels in place of ends it is that over the pieces
+  pub net_is : {from to : List ℕ} → Table 96 (λ k. get_or label (get_or (book_of m).from k 0) 0) 96 from
+      → Table 96 (λ k. get_or label (get_or (book_of m).to k 0) 0) 96 to → over (network m) piece ≡ net_of (length m.lightpaths) from to
+  net_is a b =
+      ap₂ (λ (f t : ℕ → ℕ). record { count = length m.lightpaths; from = f; to = t })
+      (fun_ext (end_is (λ (p : Lightpath). p.ends.from) refl (λ k l. (ends_lt m fits k l).0) a))
+      (fun_ext (end_is (λ (p : Lightpath). p.ends.to) refl (λ k l. (ends_lt m fits k l).1) b))
 
-  module _ {from to : List ℕ} (a : Table 96 (λ k. get_or label (get_or (book_of m).from k 0) 0) 96 from)
-      (b : Table 96 (λ k. get_or label (get_or (book_of m).to k 0) 0) 96 to) where
-    -- THE LAW of the network: with labels in place of ends it is that over the pieces
-    pub net_is : over (network m) piece ≡ net_of (length m.lightpaths) from to
-    net_is =
-        ap₂ (λ (f t : ℕ → ℕ). record { count = length m.lightpaths; from = f; to = t })
-        (fun_ext (end_is (λ (p : Lightpath). p.ends.from) refl (λ k l. (ends_lt m fits k l).0) a))
-        (fun_ext (end_is (λ (p : Lightpath). p.ends.to) refl (λ k l. (ends_lt m fits k l).1) b))
-
-    pub labels_fit : Fits (length m.lightpaths) from to
-    labels_fit = record {
-      few = (counts m fits).2;
-      from_long = a.long;
-      to_long = b.long;
-      from_low = end_low (λ (p : Lightpath). p.ends.from) refl (λ k l. (ends_lt m fits k l).0) a;
-      to_low = end_low (λ (p : Lightpath). p.ends.to) refl (λ k l. (ends_lt m fits k l).1) b;
-    }
+  -- and each of its ends is that of a node
+  pub label_low : (i : ℕ) → get_or label i 0 < 64
+  label_low = table_low {f = piece} (record { long = now.long; each = now.same }) (λ i l. omega (arith, now.falls i))
 
 -- the lowest number of a set is the first that is in it
 lowest_first : (s : ℕ) → count_trailing_zeros 64 s ≡ lowest_of (has s) 64
@@ -150,7 +132,7 @@ module _ (m : RouteBook) (fits : well_formed m ≡ true) (piece : ℕ → ℕ) {
       go (no q) = omega (arith, lowest_lt m fits)
 
   -- THE LAW of a merge: the relabelled array has the merged labels
-  pub ring_labelled : (low high : List ℕ) {s : ℕ} {label' : List ℕ} → s ≡ (trail_of net low high k).touched
+  pub ring_labelled : (low high : List ℕ) {s : ℕ} {label' : List ℕ} → s ≡ (trail_of net low high k).touched.mask
       → Table 64 (λ i. relabelled s (count_trailing_zeros 64 s) (get_or label i 0)) 64 label' → Labelled m (merged m piece (ring_of m piece k)) label'
   unfolding merged lowest_label
   ring_labelled low high {s} {label'} e t =

@@ -9,6 +9,7 @@ pub mod Stations
 pub mod Whole
 pub mod Chains
 pub mod First
+pub mod Finds
 pub mod Sums
 pub mod Cuts
 pub mod Verdicts
@@ -45,6 +46,7 @@ pub mod Fewer
 pub mod Merging
 pub mod Trails
 pub mod Carried
+pub mod Elements
 pub mod LabelArrays
 pub mod Engine
 pub mod Over

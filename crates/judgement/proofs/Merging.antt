@@ -3,14 +3,12 @@
 use Prim.Native.Nat.{ℕ, zero, suc, ◌+◌, ◌-◌, ◌<◌, min, max}
 use mathlib.Core.Path.{◌≡◌, refl, sym, ap, ◌∙◌}
 use mathlib.Core.List.{List, [], ◌∷◌}
-use mathlib.Core.Bool.{Bool, true, false, cond, ◌&&◌, ◌||◌, false≢true}
+use mathlib.Core.Bool.{Bool, true, false, cond, ◌||◌, false≢true}
 use native.Mathlib.Nat.{min-zero, max-zero}
 use native.Mathlib.Decide.{ℕ_discrete}
 use native.Mathlib.Omega.{arith}
-use lib.Dec.{eqb}
 use lib.ListN.{length}
 use lib.Bits.{bit_and}
-use borrow.Author.Tests.{eqb-true, eq-eqb}
 use Rattle.book.specs.Bits.{bit, has}
 use Rattle.book.specs.Book.{RouteBook}
 use Rattle.book.proofs.Bits.{has_true, true_has, bit_lt, bit_of_zero, bit-or}
@@ -19,7 +17,7 @@ use Rattle.judgement.specs.Judgement.{network}
 use Rattle.judgement.specs.Pieces.{over}
 use Rattle.judgement.specs.Ways.{Way, here, hop, near, way}
 use Rattle.judgement.specs.Contraction.{lost, ring_of, merges}
-use Rattle.judgement.specs.Merge.{but, leads_by, seen_by}
+use Rattle.judgement.specs.Merge.{but, seen_by}
 use Rattle.judgement.specs.declared.ring.Carried.{Carried}
 use Rattle.judgement.proofs.Sets.{bit-and}
 use Rattle.judgement.proofs.FirstWays.{way_is}
@@ -33,19 +31,6 @@ or_none false = refl
 pub data Under (n : ℕ) : List ℕ → Type 0 where
   nothing : Under n []
   one_more : {k : ℕ} {ks : List ℕ} → k < n → Under n ks → Under n (k ∷ ks)
-
--- where the first end is x, the set has to have the second, whatever that is
-pub leads_first : {f : Bool} (x m a b : ℕ) → f ≡ true → a ≡ x → has m b ≡ leads_by f x m a b
-unfolding leads_by
-leads_first x m a b free e = rw (free, eq-eqb a x e) (go (eqb b x) refl)
-  where
-    go : (t : Bool) → eqb b x ≡ t → has m b ≡ (has m b || (t && has m a))
-    go true f = ap (λ (i : ℕ). has m i) (eqb-true b x f ∙ sym e) ∙ twice (has m a) ∙ ap (λ (i : ℕ). has m i || has m a) (e ∙ sym (eqb-true b x f))
-      where
-        twice : (q : Bool) → q ≡ (q || q)
-        twice true = refl
-        twice false = refl
-    go false f = sym (or_none (has m b))
 
 -- every lightpath of a way is one of the network
 under_way : (net : Network) (free : ℕ → Bool) {x y : ℕ} {ks : List ℕ} → Way net free x ks y → Under net.count ks

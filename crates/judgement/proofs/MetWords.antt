@@ -31,7 +31,8 @@ use Rattle.judgement.specs.Inside.{net_of, unset}
 use Rattle.judgement.specs.Holding.{Held}
 use Rattle.judgement.specs.Closing.{EndsLow, other_end, met_in, route_in, met_of, MetBy, left_in, side_left_by, site_in}
 use Rattle.judgement.specs.Sites.{meets, spared, stations_left, lowest_left, side_left, stands, site_of}
-use Rattle.judgement.specs.declared.Site.TheVariants.{Down, Okay}
+use Rattle.std.specs.Prelude.{None}
+use Rattle.judgement.specs.Sites.{down_at}
 use Rattle.judgement.proofs.Sets.{set_same, has_put, taken_out, lacks_bit}
 use Rattle.judgement.proofs.First.{first_alike}
 use Rattle.judgement.proofs.Held.{alike}
@@ -143,9 +144,9 @@ module _ (m : RouteBook) (fits : well_formed m ≡ true) where
 
     site_words : site_in (book_of m) words ≡ site_of m
     site_words =
-        first_alike (λ v. not (eqb (side_left_by (book_of m) words v) (left_in (stations m) v))) (λ v. not (stands m v)) (λ v. Down v (side_left_by (book_of m) words v)) (λ v. Down v (side_left m v)) Okay (length m.nodes) 0 λ v a l.
+        first_alike (λ v. not (eqb (side_left_by (book_of m) words v) (left_in (stations m) v))) (λ v. not (stands m v)) (λ v. down_at v (side_left_by (book_of m) words v)) (λ v. down_at v (side_left m v)) None (length m.nodes) 0 λ v a l.
         let s = side_left_in v (omega (arith, l, (counts m fits).0)) in
-        (ap₂ (λ (x y : ℕ). not (eqb x y)) s (left_in_lem v (omega (arith, l, (counts m fits).0))), ap (Down v) s)
+        (ap₂ (λ (x y : ℕ). not (eqb x y)) s (left_in_lem v (omega (arith, l, (counts m fits).0))), ap (down_at v) s)
 
   pub site-in : {b : Book} {words : List ℕ} → b ≡ book_of m → MetBy b b.lightpaths words → site_in b words ≡ site_of m
   site-in {b} {words} e = subst (λ (y : Book). MetBy y y.lightpaths words → site_in y words ≡ site_of m) (sym e) site_words

@@ -1,30 +1,29 @@
 -- What the reading of a choice tells the operations: a book that is well formed, or a refusal.
 -- The chosen book of a well-formed book is well formed, so whatever `choose` hands back as good can be judged.
 use Prim.Native.Nat.{ℕ}
-use mathlib.Core.Path.{◌≡◌, refl, sym, ap, ap₂, ◌∙◌, subst}
+use mathlib.Core.Path.{◌≡◌, refl, sym, ap, ◌∙◌, subst}
 use mathlib.Core.List.{List}
-use mathlib.Core.Bool.{Bool, true, false, false≢true}
+use mathlib.Core.Bool.{true}
 use mathlib.Core.Logic.{◌↔◌}
 use native.Mathlib.Omega.{arith}
 use Rattle.book.specs.declared.Book.{Book}
-use Rattle.book.specs.declared.Reply.{Reply}
-use Rattle.book.specs.declared.Answer.{Answer}
-use Rattle.book.specs.declared.Answer.TheVariants.{Good, Refused}
+use Rattle.std.specs.Prelude.{Result, Ok}
+use Rattle.book.specs.declared.refusal.Refusal.{Refusal}
 use Rattle.book.specs.Book.{RouteBook, well_formed}
 use Rattle.book.specs.Format.{Reading, good, refused, reading}
-use Rattle.book.specs.Memory.{book_of, number_of, place_of, shown}
+use Rattle.book.specs.Memory.{book_of, fault_number, fault_of, shown}
 use Rattle.book.specs.Choice.{chosen}
 use Rattle.book.specs.Writing.{chosen_of}
 use Rattle.book.proofs.Readers.{Bytes}
 use Rattle.book.proofs.Format.{reading_only}
 use Rattle.book.proofs.Chosen.{choice_fits}
-use Rattle.book.proofs.ChoiceRead.{ChoiceIs, such, no_such, choice_is, refused_above}
+use Rattle.book.proofs.ChoiceRead.{ChoiceIs, such, no_such, choice_is, refused_above, refused_number}
+use Rattle.book.proofs.Written.{ok_holds}
 use Rattle.judgement.specs.Holding.{Held}
 use Rattle.judgement.specs.Judgement.{verdict, score_f, score_fc}
-use Rattle.judgement.specs.Answers.{judged_of, judged_numbers}
+use Rattle.judgement.specs.Answers.{judged, judged_of, judged_numbers}
 use Rattle.judgement.specs.declared.Verdict.{Verdict}
 use Rattle.judgement.specs.declared.Verdict.TheVariants.{Over, Split, Cut, Okay}
-use Rattle.judgement.specs.declared.Judged.TheVariants.{Told}
 
 -- a good book, as a reply holds it
 pub record Opened (g : Reading) (b : Book) : Type 0 where
@@ -33,17 +32,6 @@ pub record Opened (g : Reading) (b : Book) : Type 0 where
   pub held : b ≡ book_of book
   pub fits : well_formed book ≡ true
 
-is_good : Answer → Bool
-is_good Good = true
-is_good (Refused k p) = false
-
-pub opened_refused : (g : Reading) (r : Reply) {k p : ℕ} → r ≡ shown g → r.answer ≡ Refused k p → g ≡ refused k p
-unfolding is_good
-opened_refused (good m) r e a = absurd (false≢true (ap is_good (sym a ∙ ap (λ (x : Reply). x.answer) e)))
-opened_refused (refused i j) r e a =
-    let z : ◌≡◌ {A = Answer} (Refused i j) (Refused _ _) = sym (ap (λ (x : Reply). x.answer) e) ∙ a in
-    ap₂ refused (ap number_of z) (ap place_of z)
-
 module _ (s : List ℕ) (n : ℕ) (h : Bytes s) where
   pub fits_all : (m : RouteBook) → chosen_of (reading s) n ≡ good m → well_formed m ≡ true
   fits_all m e = go (subst (ChoiceIs s n) e (choice_is s n))
@@ -51,41 +39,33 @@ module _ (s : List ℕ) (n : ℕ) (h : Bytes s) where
       go : {c : RouteBook} → ChoiceIs s n (good c) → well_formed c ≡ true
       go (such a q l) = choice_fits a n (reading_only s a h q).1
 
-  pub opened : (r : Reply) → r ≡ shown (chosen_of (reading s) n) → r.answer ≡ Good → Opened (chosen_of (reading s) n) r.book
-  unfolding is_good
-  opened r e a = go (choice_is s n) e
-    where
-      go : {g : Reading} → ChoiceIs s n g → r ≡ shown g → Opened g r.book
-      go (such m q l) w = record { book = chosen m n; is = refl; held = ap (λ (x : Reply). x.book) w; fits = choice_fits m n (reading_only s m h q).1 }
-      go (no_such x) w = absurd (false≢true (sym (ap is_good (sym a ∙ ap (λ (x : Reply). x.answer) w))))
+  pub opened : {b : Book} → ◌≡◌ {A = Result Book Refusal} (Ok b) (shown (chosen_of (reading s) n)) → Opened (chosen_of (reading s) n) b
+  opened e = let o = ok_holds (chosen_of (reading s) n) e in record { book = o.book; is = o.is; held = o.held; fits = fits_all o.book o.is }
 
   -- a refusal has a number of its own, so number 0 means that the answer is told
-  pub told_good : (f : Reading → ℕ) → ((m : RouteBook) → f (good m) ≡ 0) → ((k p : ℕ) → f (refused k p) ≡ k)
+  pub told_good : (f : Reading → ℕ) → ((m : RouteBook) → f (good m) ≡ 0) → ((k p : ℕ) → f (refused k p) ≡ fault_number (fault_of k))
       → (f (chosen_of (reading s) n) ≡ 0) ↔ ((m : RouteBook) × (chosen_of (reading s) n ≡ good m))
   told_good f told bad = (to (choice_is s n), (λ z. ap f z.1 ∙ told z.0))
     where
       to : {g : Reading} → ChoiceIs s n g → f g ≡ 0 → (m : RouteBook) × (g ≡ good m)
       to (such m q l) z = (chosen m n, refl)
-      to (no_such {k} {p} x) z = absurd (omega (arith, refused_above s n h x, z, bad k p))
+      to (no_such {k} {p} x) z = absurd (omega (arith, refused_above s n h x, refused_number s n x, z, bad k p))
 
   pub judged_told : ((judged_numbers (judged_of (chosen_of (reading s) n))).number ≡ 0) ↔ ((m : RouteBook) × (chosen_of (reading s) n ≡ good m))
   judged_told = told_good (λ g. (judged_numbers (judged_of g)).number) (λ m. kinds (verdict m) (score_f m) (score_fc m)) (λ k p. refl)
     where
-      kinds : (v : Verdict) (f c : ℕ) → (judged_numbers (Told v f c)).number ≡ 0
+      kinds : (v : Verdict) (f c : ℕ) → (judged_numbers (Ok (judged v f c))).number ≡ 0
       kinds (Over x l w) f c = refl
       kinds (Split d) f c = refl
       kinds (Cut x d) f c = refl
       kinds Okay f c = refl
 
--- THE LAWS of an operation on bytes: r is what `choose` handed back, and f what is to be answered of a reading. A good book is there to be asked about, what
--- is told of it is told of the reading, and a refusal is handed on
-module _ (s : List ℕ) (n : ℕ) (r : Reply) (e : r ≡ shown (chosen_of (reading s) n)) where
-  pub good_held : Bytes s → r.answer ≡ Good → Held r.book
-  good_held h a = let o = opened s n h r e a in record { book = o.book; is = o.held; fits = o.fits }
+-- THE LAWS of an operation on bytes: b is what `choose` handed back, and f what is to be answered of a reading. A good book is there to be asked about, and
+-- what is told of it is told of the reading
+module _ (s : List ℕ) (n : ℕ) {b : Book} (e : ◌≡◌ {A = Result Book Refusal} (Ok b) (shown (chosen_of (reading s) n))) where
+  pub good_held : Bytes s → Held b
+  good_held h = let o = opened s n h e in record { book = o.book; is = o.held; fits = o.fits }
 
-  pub good_told : {A : Type 0} (f : Reading → A) {x : A} → Bytes s → r.answer ≡ Good
-      → ((m : RouteBook) → r.book ≡ book_of m → well_formed m ≡ true → x ≡ f (good m)) → x ≡ f (chosen_of (reading s) n)
-  good_told f h a told = let o = opened s n h r e a in told o.book o.held o.fits ∙ ap f (sym o.is)
-
-  pub refused_told : {A : Type 0} (f : Reading → A) {k p : ℕ} → r.answer ≡ Refused k p → f (refused k p) ≡ f (chosen_of (reading s) n)
-  refused_told f a = ap f (sym (opened_refused (chosen_of (reading s) n) r e a))
+  pub good_told : {A : Type 0} (f : Reading → A) {x : A} → Bytes s
+      → ((m : RouteBook) → b ≡ book_of m → well_formed m ≡ true → x ≡ f (good m)) → x ≡ f (chosen_of (reading s) n)
+  good_told f h told = let o = opened s n h e in told o.book o.held o.fits ∙ ap f (sym o.is)

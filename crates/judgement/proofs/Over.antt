@@ -3,10 +3,9 @@
 use Prim.Native.Nat.{ℕ, zero, suc, ◌+◌, ◌-◌, ◌<◌}
 use mathlib.Core.Path.{◌≡◌, refl, sym, ap, ap₂, ◌∙◌, subst}
 use mathlib.Core.List.{List}
-use mathlib.Core.Logic.{inl, inr}
 use mathlib.Core.Bool.{Bool, true, false, cond, not, ◌&&◌}
 use native.Mathlib.Nat.{le_antisymm}
-use native.Mathlib.Decide.{ℕ_discrete, dec_lt}
+use native.Mathlib.Decide.{dec_lt}
 use native.Mathlib.Omega.{arith}
 use lib.Count.{count_trailing_zeros}
 use lib.Dec.{eqb, ltb}
@@ -15,25 +14,22 @@ use borrow.Author.Tests.{lt-ltb, le-ltb}
 use Rattle.book.specs.declared.Book.{Book}
 use Rattle.book.specs.Book.{RouteBook, well_formed}
 use Rattle.book.specs.Memory.{book_of}
-use Rattle.book.specs.Format.{good}
-use Rattle.book.specs.Bits.{bit, has, put}
-use Rattle.book.proofs.Bits.{bit_of_zero, put_same, put_keeps, put_inv}
+use Rattle.book.specs.Bits.{has}
 use Rattle.book.proofs.Bounds.{counts}
 use Rattle.book.proofs.Tests.{and_both}
 use Rattle.book.proofs.Walking.{below_all}
 use Rattle.judgement.specs.Network.{Network, side_of}
 use Rattle.judgement.specs.Judgement.{rides, network, load, limit, without, all_up, stations, lowest, first_of}
 use Rattle.judgement.specs.Pieces.{over, labels, piece_side, piece_whole, in_stations, cut_over, split_over}
-use Rattle.judgement.specs.Contraction.{pieces, merges_in, contracted_of}
+use Rattle.judgement.specs.Contraction.{pieces, merges_in, contracted, contraction_of}
 use Rattle.judgement.specs.Arrays.{usable, load_in, limit_in, up_in, side_by, cut_or_okay_in, split_or_in}
-use Rattle.judgement.specs.Holding.{Usable}
+use Rattle.judgement.specs.Holding.{Usable, is_over, over_in}
+use Rattle.std.specs.Prelude.{Option, Some, None}
 use Rattle.judgement.specs.Merge.{Table, Labelled, OverPieces, with_ends, in_stations_by, given_in}
 use Rattle.judgement.specs.declared.Verdict.{Verdict}
 use Rattle.judgement.specs.declared.Verdict.TheVariants.{Over, Split, Cut, Okay}
 use Rattle.judgement.specs.declared.Contracted.{Contracted}
-use Rattle.judgement.specs.declared.Contracted.TheVariants.{Told}
 use Rattle.judgement.specs.declared.load.Overload.{Overload}
-use Rattle.judgement.specs.declared.load.Overload.TheVariants as overload
 use Rattle.judgement.proofs.Alike.{side_alike}
 use Rattle.judgement.proofs.First.{first_alike, first_map}
 use Rattle.judgement.proofs.Sets.{low_in, low_below, low_lt}
@@ -42,42 +38,15 @@ use Rattle.judgement.proofs.Usable.{by_the_ends}
 use Rattle.judgement.proofs.Carried.{low_rides, high_rides}
 use Rattle.judgement.proofs.Loads.{load-in}
 use Rattle.judgement.proofs.Excess.{limit-in}
-use Rattle.judgement.proofs.LabelArrays.{net_is, labels_fit}
+use Rattle.judgement.proofs.Labels.{labels_in, labels_of}
+use Rattle.judgement.proofs.LabelArrays.{net_is, label_low}
+use Rattle.judgement.proofs.Elements.{table_low}
 
 -- a set of labels, by tests and labels that agree
 labels_alike : (t t' : ℕ → Bool) (f g : ℕ → ℕ) (n : ℕ) → ((i : ℕ) → i < n → (t i ≡ t' i) × (f i ≡ g i)) → labels t f n ≡ labels t' g n
 unfolding labels
 labels_alike t t' f g zero h = refl
 labels_alike t t' f g (suc n) h = let e = h n (omega arith) in rw (e.0, e.1, labels_alike t t' f g n (λ i l. h i (omega arith)))
-
--- what is in it: the labels of the numbers that pass
-labels_in : (t : ℕ → Bool) (f : ℕ → ℕ) (n i : ℕ) → i < n → t i ≡ true → bit (labels t f n) (f i) ≡ 1
-unfolding labels
-labels_in t f zero i l e = absurd (omega arith)
-labels_in t f (suc n) i l e = go (λ q. labels_in t f n i q e) (ℕ_discrete i n)
-  where
-    kept : (b : Bool) → bit (labels t f n) (f i) ≡ 1 → bit (cond b (put (labels t f n) (f n)) (labels t f n)) (f i) ≡ 1
-    kept true h = put_keeps (labels t f n) (f n) (f i) h
-    kept false h = h
-
-    go : (i < n → bit (labels t f n) (f i) ≡ 1) → Dec (i ≡ n) → bit (cond (t n) (put (labels t f n) (f n)) (labels t f n)) (f i) ≡ 1
-    go ih (yes y) = rw (ap t (sym y) ∙ e, ap f y) (put_same (labels t f n) (f n))
-    go ih (no z) = kept (t n) (ih (omega arith))
-
-labels_inv : (t : ℕ → Bool) (f : ℕ → ℕ) (n q : ℕ) → bit (labels t f n) q ≡ 1 → (i : ℕ) × (i < n) × (t i ≡ true) × (f i ≡ q)
-unfolding labels
-labels_inv t f zero q h = absurd (omega (arith, h, bit_of_zero q))
-labels_inv t f (suc n) q h = go (λ g. more (labels_inv t f n q g)) (t n) refl h
-  where
-    Out : ℕ → Type 0
-    Out k = (i : ℕ) × (i < k) × (t i ≡ true) × (f i ≡ q)
-
-    more : Out n → Out (suc n)
-    more w = (w.0, omega (arith, w.1), w.2, w.3)
-
-    go : (bit (labels t f n) q ≡ 1 → Out (suc n)) → (b : Bool) → t n ≡ b → bit (cond b (put (labels t f n) (f n)) (labels t f n)) q ≡ 1 → Out (suc n)
-    go ih true e g = elim (put_inv (labels t f n) (f n) q g) [ inl u ↦ ih u | inr u ↦ (n, omega arith, e, sym u) ]
-    go ih false e g = ih g
 
 -- a verdict given in stations, where it is one of two, and where it is the first of a search
 given_cond : (st : ℕ) (label : List ℕ) (b : Bool) (v w : Verdict) → given_in st label (cond b v w) ≡ cond b (given_in st label v) (given_in st label w)
@@ -93,7 +62,7 @@ module _ (m : RouteBook) (fits : well_formed m ≡ true) (piece : ℕ → ℕ) {
       let here = labels_in (has (stations m)) piece 64 (lowest m) (lowest_lt m fits) (lowest_has m fits) in
       let low = now.falls (lowest m) in
       let l = low_lt 64 all (piece (lowest m)) (omega (arith, lowest_lt m fits)) here in
-      let w = labels_inv (has (stations m)) piece 64 (count_trailing_zeros 64 all) (low_in 64 all l) in
+      let w = labels_of (has (stations m)) piece 64 (count_trailing_zeros 64 all) (low_in 64 all l) in
       le_antisymm
       (elim (dec_lt (piece (lowest m)) (count_trailing_zeros 64 all)) [
         | yes q ↦ absurd (omega (arith, here, low_below 64 all (piece (lowest m)) q))
@@ -116,9 +85,9 @@ module _ (m : RouteBook) (fits : well_formed m ≡ true) (piece : ℕ → ℕ) {
     is_usable : usable overall ≡ true
     is_usable =
         let n = counts m fits in
-        let f = labels_fit m fits piece now a b in
+        let low = label_low m fits piece now in
         sym (by_the_ends overall n.2 n.1 (omega (arith, lowest-label, now.falls (lowest m), lowest_lt m fits)))
-        ∙ and_both (below_all 64 from f.from_low) (below_all 64 to f.to_low)
+        ∙ and_both (below_all 64 from (table_low a (λ k l. low _))) (below_all 64 to (table_low b (λ k l. low _)))
 
     side_over : (up up' : ℕ → Bool) → ((k : ℕ) → k < length m.lightpaths → up k ≡ up' k) → side_by overall up ≡ piece_side m piece up'
     side_over up up' same =
@@ -195,24 +164,20 @@ first_both g t f h o u (suc d) k = go (t k) (first_both g t f h o u d (suc k))
     go false ih = ih
 
 -- OVER at the span that was found, with no merge, or else this verdict and these merges
-abbrev pub over_first : Verdict → ℕ → Overload → Contracted
-over_first v n (overload.At x l w) = Told (Over x l w) 0
-over_first v n overload.Nowhere = Told v n
-
--- the first span of a struct that is over its limit
-abbrev over_in : Book → Overload
-over_in b = first_of (λ x. ltb (limit_in b x) (load_in b x)) (λ x. overload.At x (load_in b x) (limit_in b x)) overload.Nowhere b.spans 0
+abbrev pub over_first : Verdict → ℕ → Option Overload → Contracted
+over_first v n (Some o) = contracted (Over o.span o.load o.limit) 0
+over_first v n None = contracted v n
 
 -- THE LAW of the answer
-pub contracted_is : (m : RouteBook) → well_formed m ≡ true → {b : Book} → b ≡ book_of m → {p : Overload}
-    → p ≡ over_in b → over_first (split_over m (pieces m)) (merges_in m 4096 (λ i. i)) p ≡ contracted_of (good m)
+pub contracted_is : (m : RouteBook) → well_formed m ≡ true → {b : Book} → b ≡ book_of m → {p : Option Overload}
+    → p ≡ first_of (is_over b) (over_in b) None b.spans 0 → over_first (split_over m (pieces m)) (merges_in m 4096 (λ i. i)) p ≡ contraction_of m
 contracted_is m fits {b} e {p} h =
     let v = split_over m (pieces m) in
     let n = merges_in m 4096 (λ i. i) in
     let held = book_of m in
-    ap (over_first v n) (h ∙ ap over_in e)
-    ∙ first_map (over_first v n) (λ x. ltb (limit_in held x) (load_in held x)) (λ x. overload.At x (load_in held x) (limit_in held x)) overload.Nowhere (length m.spans) 0
-    ∙ first_alike (λ x. ltb (limit_in held x) (load_in held x)) (λ x. ltb (limit m x) (load m x))
-    (λ x. Told (Over x (load_in held x) (limit_in held x)) 0) (λ x. Told (Over x (load m x) (limit m x)) 0) (Told v n) (length m.spans) 0
-    (λ x p q. (ap₂ ltb (limit-in m x) (load-in m fits x), ap₂ (λ (l w : ℕ). Told (Over x l w) 0) (load-in m fits x) (limit-in m x)))
-    ∙ sym (first_both Told (λ x. ltb (limit m x) (load m x)) (λ x. Over x (load m x) (limit m x)) (λ x. 0) v n (length m.spans) 0)
+    ap (over_first v n) (h ∙ ap (λ (y : Book). first_of (is_over y) (over_in y) None y.spans 0) e)
+    ∙ first_map (over_first v n) (is_over held) (over_in held) None (length m.spans) 0
+    ∙ first_alike (is_over held) (λ x. ltb (limit m x) (load m x))
+    (λ x. contracted (Over x (load_in held x) (limit_in held x)) 0) (λ x. contracted (Over x (load m x) (limit m x)) 0) (contracted v n) (length m.spans) 0
+    (λ x p q. (ap₂ ltb (limit-in m x) (load-in m fits x), ap₂ (λ (l w : ℕ). contracted (Over x l w) 0) (load-in m fits x) (limit-in m x)))
+    ∙ sym (first_both contracted (λ x. ltb (limit m x) (load m x)) (λ x. Over x (load m x) (limit m x)) (λ x. 0) v n (length m.spans) 0)

@@ -21,9 +21,9 @@ use Rattle.book.proofs.NodesMet.{met_start, met_end}
 use Rattle.judgement.specs.Network.{Joined, start, more}
 use Rattle.judgement.specs.Judgement.{network, stations}
 use Rattle.judgement.specs.Meaning.{Least}
-use Rattle.judgement.specs.Sites.{spared, meets, stations_left, lowest_left, side_left, stands, site_of, IsOther, OthersJoined, IsDown, IsSide, SiteGiven, down, okay}
-use Rattle.judgement.specs.declared.Site.{Site}
-use Rattle.judgement.specs.declared.Site.TheVariants.{Down, Okay}
+use Rattle.judgement.specs.Sites.{down_at, spared, meets, stations_left, lowest_left, side_left, stands, site_of, IsOther, OthersJoined, IsDown, IsSide, SiteGiven, down, okay}
+use Rattle.std.specs.Prelude.{Option, None}
+use Rattle.judgement.specs.declared.Down.{Down}
 use Rattle.judgement.proofs.Tests.{not_when, when_not_not}
 use Rattle.judgement.proofs.Sets.{set_same, low_in, low_below, low_some}
 use Rattle.judgement.proofs.Joins.{side_grown}
@@ -160,14 +160,14 @@ module _ (m : RouteBook) (good : well_formed m ≡ true) where
   abbrev test : ℕ → Bool
   test v = not (stands m v)
 
-  abbrev answer : ℕ → Site
-  answer v = Down v (side_left m v)
+  abbrev answer : ℕ → Option Down
+  answer v = down_at v (side_left m v)
 
   -- THE LAW: the answer means what its kind and numbers say
   pub site_given : SiteGiven m (site_of m)
-  site_given = go (first test answer Okay (length m.nodes) 0)
+  site_given = go (first test answer None (length m.nodes) 0)
     where
-      go : {r : Site} → First test answer Okay (length m.nodes) 0 r → SiteGiven m r
+      go : {r : Option Down} → First test answer None (length m.nodes) 0 r → SiteGiven m r
       go (there v a b h low) =
           let is_down : IsDown m v = λ all. false≢true (sym (not-true (stands m v) h) ∙ (stands_joined m good v).1 all) in
           down v (side_left m v) (record {
@@ -178,25 +178,25 @@ module _ (m : RouteBook) (good : well_formed m ≡ true) where
       go (nowhere h) = okay (λ v l. (stands_joined m good v).0 (not-false (stands m v) (h v zero-le (omega (arith, l)))))
 
   -- and no other answer means that
-  pub site_only : {r : Site} → SiteGiven m r → r ≡ site_of m
+  pub site_only : {r : Option Down} → SiteGiven m r → r ≡ site_of m
   site_only (down v d c s) =
-      ap (Down v) (side_once m good v s)
-      ∙ first_only test answer Okay (length m.nodes) 0
+      ap (down_at v) (side_once m good v s)
+      ∙ first_only test answer None (length m.nodes) 0
       (there v zero-le (omega (arith, c.below)) (ap not (not_when (stands m v) (stands_joined m good v).0 c.holds)) (λ y a l. ap not (when_not_not (stands m y) (stands_joined m good y).1 (c.before y l))))
-  site_only (okay all) = first_only test answer Okay (length m.nodes) 0 (nowhere (λ v a l. ap not ((stands_joined m good v).1 (all v (omega (arith, l))))))
+  site_only (okay all) = first_only test answer None (length m.nodes) 0 (nowhere (λ v a l. ap not ((stands_joined m good v).1 (all v (omega (arith, l))))))
 
-  pub site_once : {r r' : Site} → SiteGiven m r → SiteGiven m r' → r ≡ r'
+  pub site_once : {r r' : Option Down} → SiteGiven m r → SiteGiven m r' → r ≡ r'
   site_once g g' = site_only g ∙ sym (site_only g')
 
   -- each kind by itself, with its numbers
-  pub down_exact : (v d : ℕ) → (site_of m ≡ Down v d) ↔ (Least (IsDown m) (length m.nodes) v × IsSide m v d)
+  pub down_exact : (v d : ℕ) → (site_of m ≡ down_at v d) ↔ (Least (IsDown m) (length m.nodes) v × IsSide m v d)
   down_exact v d = ((λ e. go (subst (SiteGiven m) e site_given)), (λ p. sym (site_only (down v d p.0 p.1))))
     where
-      go : {v d : ℕ} → SiteGiven m (Down v d) → Least (IsDown m) (length m.nodes) v × IsSide m v d
+      go : {v d : ℕ} → SiteGiven m (down_at v d) → Least (IsDown m) (length m.nodes) v × IsSide m v d
       go (down v d c s) = (c, s)
 
-  pub site_okay : (site_of m ≡ Okay) ↔ ((v : ℕ) → v < length m.nodes → OthersJoined m v)
+  pub site_okay : (site_of m ≡ None) ↔ ((v : ℕ) → v < length m.nodes → OthersJoined m v)
   site_okay = ((λ e. go (subst (SiteGiven m) e site_given)), (λ all. sym (site_only (okay all))))
     where
-      go : SiteGiven m Okay → (v : ℕ) → v < length m.nodes → OthersJoined m v
+      go : SiteGiven m None → (v : ℕ) → v < length m.nodes → OthersJoined m v
       go (okay all) = all

@@ -22,7 +22,7 @@ use Rattle.judgement.specs.Cuts.{AllJoined, Survives}
 use Rattle.judgement.specs.Meaning.{NoneOver, IsCut}
 use Rattle.judgement.specs.Withdrawn.{NoLess}
 use Rattle.judgement.specs.Sites.{meets, spared, stands, site_of, IsOther, OthersJoined, IsDown, Three, OkayOrOver, is_okay, is_over}
-use Rattle.judgement.specs.declared.Site.TheVariants.{Okay}
+use Rattle.std.specs.Prelude.{None}
 use Rattle.judgement.specs.declared.Verdict.{Verdict}
 use Rattle.judgement.specs.declared.Verdict.TheVariants.{Over, Split, Cut}
 use Rattle.judgement.specs.declared.Verdict.TheVariants as kind
@@ -163,7 +163,7 @@ module _ (m : RouteBook) (good : well_formed m ≡ true) (three : Three m) where
       go false e = inl (λ all. false≢true (sym e ∙ (stands_joined m good u).1 all))
 
   -- THE LAW: where every site stands the book survives
-  pub site_survives : site_of m ≡ Okay → Survives m
+  pub site_survives : site_of m ≡ None → Survives m
   site_survives e = record {
     intact = λ i s. let t = third m three (lowest m) i in
         joined_stays (open_no_less m t.node) (all t.node (node_lt t.station) (lowest m) i (lowest_has m good, λ q. t.not_i (sym q)) (s, λ q. t.not_j (sym q)));
@@ -177,10 +177,10 @@ module _ (m : RouteBook) (good : well_formed m ≡ true) (three : Three m) where
       node_lt {i} s = station_low m.nodes i (sym (station_has m.nodes i) ∙ s)
 
   -- so it is acceptable unless a span is over: its verdict is OK or OVER
-  pub site_acceptable : site_of m ≡ Okay → (acceptable m ≡ true) ↔ NoneOver m
+  pub site_acceptable : site_of m ≡ None → (acceptable m ≡ true) ↔ NoneOver m
   site_acceptable e = ((λ h. ((acceptable_joined m good).0 h).0), (λ none. (acceptable_joined m good).1 (none, site_survives e)))
 
-  pub site_verdict : site_of m ≡ Okay → OkayOrOver (verdict m)
+  pub site_verdict : site_of m ≡ None → OkayOrOver (verdict m)
   site_verdict e = go (verdict m) refl
     where
       go : (v : Verdict) → verdict m ≡ v → OkayOrOver v

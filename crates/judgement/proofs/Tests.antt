@@ -2,7 +2,10 @@
 -- The sides, the pieces and the ways are all computed by such tests.
 use mathlib.Core.Path.{◌≡◌, refl, sym, ap}
 use mathlib.Core.Logic.{◌⊎◌, inl, inr}
-use mathlib.Core.Bool.{Bool, true, false, ◌||◌, false≢true}
+use mathlib.Core.Bool.{Bool, true, false, not, ◌||◌, false≢true}
+use Prim.Native.Nat.{ℕ}
+use native.Mathlib.Omega.{arith}
+use lib.Dec.{eqb}
 
 pub or_l : {a : Bool} (b : Bool) → a ≡ true → (a || b) ≡ true
 or_l b e = ap (λ (q : Bool). q || b) e
@@ -28,3 +31,15 @@ not_when false f n = refl
 pub when_not_not : {P : Type 0} (t : Bool) → (P → t ≡ true) → ((P → ⊥) → ⊥) → t ≡ true
 when_not_not true g n = refl
 when_not_not false g n = absurd (n (λ p. false≢true (g p)))
+
+-- what the test `!=` of two numbers tells
+module _ {x y : ℕ} {r : Bool} (e : r ≡ not (eqb x y)) where
+  pub told_apart : r ≡ true → x ≡ y → ⊥
+  told_apart h same = grind arith
+
+  pub told_alike : r ≡ false → x ≡ y
+  told_alike h = grind arith
+
+-- it tells as much of what they are equal to
+pub test_is : {x y x' y' : ℕ} {t : Bool} → t ≡ not (eqb x y) → x ≡ x' → y ≡ y' → not (eqb x' y') ≡ t
+test_is e p q = rw (← p, ← q) (sym e)

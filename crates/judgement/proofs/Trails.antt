@@ -3,7 +3,9 @@
 use Prim.Native.Nat.{ℕ, suc, ◌+◌, ◌-◌, ◌^◌, ◌<◌, ◌≤◌}
 use mathlib.Core.Path.{◌≡◌, refl, sym, ap, ◌∙◌, subst}
 use mathlib.Core.List.{List}
-use mathlib.Core.Bool.{Bool, true, false, cond, false≢true}
+use mathlib.Core.Bool.{Bool, true, false, cond, ◌&&◌, ◌||◌}
+use Rattle.std.specs.Prelude.{Option, Some, None}
+use Rattle.std.specs.Bool.{then_some}
 use native.Mathlib.Numerals.{add-one}
 use native.Mathlib.Nat.{le_refl}
 use native.Mathlib.Decide.{ℕ_discrete}
@@ -11,24 +13,29 @@ use native.Mathlib.Omega.{arith}
 use lib.Dec.{eqb}
 use lib.ListN.{length, get_or, set, length-set}
 use lib.Seq.{get_or-set_same, get_or-set_other}
-use borrow.Author.Tests.{eq-eqb, ne_eqb}
+use borrow.Author.Tests.{eq-eqb, ne_eqb, lt-ltb}
 use Rattle.book.specs.Bits.{bit, has, put}
 use Rattle.book.proofs.Bits.{has_true, true_has, put_zero}
 use Rattle.judgement.specs.Network.{Network}
-use Rattle.judgement.specs.Ways.{widen, near, far, way}
-use Rattle.judgement.specs.Merge.{but, spread_by, RoundsTo, with_path, gathered, empty_trail, nearer_by, trail_of, merges_by, ring_at}
+use Rattle.judgement.specs.Ways.{widen, near, leads, far, way}
+use Rattle.judgement.specs.Merge.{but, RoundsTo, with_path, gathered, empty_trail, nearer_by, trail_of, merges_by, ring_at}
 use Rattle.judgement.specs.declared.ways.Rounds.{Rounds}
 use Rattle.judgement.specs.declared.ring.Trail.{Trail}
-use Rattle.judgement.specs.declared.ring.Ring.{Ring}
-use Rattle.judgement.specs.declared.ring.Ring.TheVariants.{Sparing, Nothing}
+use Rattle.judgement.specs.declared.side.Side.{Side}
 use Rattle.judgement.proofs.FirstWays.{step_of, step_is, way_stay, way_step}
+use Rattle.judgement.proofs.Lowest.{first_lowest}
 use Rattle.judgement.proofs.Rounds.{met, ended}
 
--- one lightpath of a round
-pub widen_step : (net : Network) (free : ℕ → Bool) (old k : ℕ)
-    → widen net free old (k + 1) ≡ spread_by (free k) old (net.from k) (net.to k) (widen net free old k)
-unfolding widen spread_by
-widen_step net free old k = ap (widen net free old) (add-one k)
+-- a round: no lightpath, and one more
+module _ (net : Network) (free : ℕ → Bool) (old : ℕ) where
+  pub widen_none : widen net free old 0 ≡ old
+  unfolding widen
+  widen_none = refl
+
+  pub widen_next : (k : ℕ) → widen net free old (k + 1)
+      ≡ cond (free k && (has old (net.from k) || has old (net.to k))) (put (put (widen net free old k) (net.from k)) (net.to k)) (widen net free old k)
+  unfolding widen
+  widen_next k = ap (widen net free old) (add-one k)
 
 module _ (net : Network) (free : ℕ → Bool) (y : ℕ) where
   -- the rounds so far
@@ -88,10 +95,14 @@ module _ (net : Network) (free : ℕ → Bool) (y : ℕ) where
       pub rounding_all : 64 ≤ last → RoundsTo net free y x (record { sets = sets; last = last })
       rounding_all l = let z : 64 ≡ last = omega (arith, now.few) in told (ap (λ (n : ℕ). has (near net free y n) x) z)
 
--- whether the last round met x
-pub last_met : {net : Network} {free : ℕ → Bool} {y x : ℕ} {r : Rounds} → RoundsTo net free y x r → {t : Bool} → t ≡ has (get_or r.sets r.last 0) x
-    → has (near net free y r.last) x ≡ t
-last_met {x = x} {r = r} told e = ap (λ (m : ℕ). has m x) (sym (told.each r.last (le_refl _))) ∙ sym e
+-- whether the last round met x, and so whether any does
+module _ {net : Network} {free : ℕ → Bool} {y x : ℕ} {r : Rounds} (told : RoundsTo net free y x r) {d : ℕ} (last : d ≡ get_or r.sets r.last 0)
+    {t : Bool} (e : t ≡ has d x) where
+  pub last_met : has (near net free y r.last) x ≡ t
+  last_met = ap (λ (m : ℕ). has m x) (sym (last ∙ told.each r.last (le_refl _))) ∙ sym e
+
+  pub all_met : has (near net free y 64) x ≡ t
+  all_met = told.met ∙ last_met
 
 module _ (net : Network) (low high : List ℕ) (k : ℕ) where
   -- the way is on: it has come to a piece of round `left`, and what is left of it gathers the rest of the ring
@@ -117,13 +128,6 @@ module _ (net : Network) (low high : List ℕ) (k : ℕ) where
             ∙ ap (gathered net low high (way net (but k) (net.to k) 64 (net.from k))) e;
       }
 
-  -- where the lightpath comes from that `nearer` looks for
-  pub trailing_leads : {last left : ℕ} {t : Trail} → Trailing last left t → 0 < left → has (near net (but k) (net.to k) (left - 1)) t.at ≡ false
-      → step_of net (but k) (net.to k) (left - 1) t.at < net.count
-  trailing_leads {last} {left} {t} now l e =
-      let z : left ≡ suc (left - 1) = omega arith in
-      (step_is net (but k) (net.to k) (left - 1) t.at e (subst (λ (n : ℕ). bit (near net (but k) (net.to k) n) t.at ≡ 1) z now.met)).below
-
   trailing_suc : {last n : ℕ} {t : Trail} → ((j : ℕ) → (net.from j < 64) × (net.to j < 64)) → Trailing last (suc n) t
       → (b : Bool) → has (near net (but k) (net.to k) n) t.at ≡ b
       → Trailing last n (cond b t (with_path net low high t (step_of net (but k) (net.to k) n t.at)))
@@ -147,13 +151,25 @@ module _ (net : Network) (low high : List ℕ) (k : ℕ) where
       low_end true h = h.1
       low_end false h = h.0
 
+  -- the lightpath that `nearer` takes, if it takes one
+  nearer_is : {last n : ℕ} {t : Trail} → Trailing last (suc n) t → (b : Bool) → has (near net (but k) (net.to k) n) t.at ≡ b
+      → nearer_by net (but k) low high (near net (but k) (net.to k) n) t ≡ cond b t (with_path net low high t (step_of net (but k) (net.to k) n t.at))
+  unfolding nearer_by
+  nearer_is now true e = rw e
+  nearer_is {n = n} {t = t} now false e =
+      rw e (
+      first_lowest (leads net (but k) t.at (near net (but k) (net.to k) n)) (with_path net low high t) t net.count
+      ∙ ap (λ (b : Bool). cond b (with_path net low high t (step_of net (but k) (net.to k) n t.at)) t)
+      (lt-ltb _ _ (step_is net (but k) (net.to k) n t.at e now.met).below)
+      )
+
   pub trailing_next : {last left : ℕ} {t t' : Trail} → ((j : ℕ) → (net.from j < 64) × (net.to j < 64)) → Trailing last left t → 0 < left
       → t' ≡ nearer_by net (but k) low high (near net (but k) (net.to k) (left - 1)) t → Trailing last (left - 1) t'
-  unfolding nearer_by
   trailing_next {last} {left} {t} ends now l e =
       let z : left ≡ suc (left - 1) = omega arith in
       let now' = subst (λ (n : ℕ). Trailing last n t) z now in
-      subst (Trailing last (left - 1)) (sym e) (trailing_suc ends now' (has (near net (but k) (net.to k) (left - 1)) t.at) refl)
+      let b = has (near net (but k) (net.to k) (left - 1)) t.at in
+      subst (Trailing last (left - 1)) (sym (e ∙ nearer_is now' b refl)) (trailing_suc ends now' b refl)
 
   pub trailing_done : {last left : ℕ} {t : Trail} → Trailing last left t → left ≤ 0 → t ≡ trail_of net low high k
   unfolding gathered way
@@ -162,58 +178,33 @@ module _ (net : Network) (low high : List ℕ) (k : ℕ) where
       ap (λ (n : ℕ). gathered net low high (way net (but k) (net.to k) n t.at) t) (sym z) ∙ now.rest
 
   -- the answer on lightpath k, test by test
-  abbrev Answer : Ring → Type 0
-  Answer r = r ≡ cond (merges_by net low high k) (ring_at net low high k) Nothing
+  abbrev Answer : Option Side → Type 0
+  Answer r = r ≡ cond (merges_by net low high k) (ring_at net low high k) None
 
-  pub same_piece : net.from k ≡ net.to k → Answer Nothing
+  pub same_piece : net.from k ≡ net.to k → Answer None
   unfolding merges_by
   same_piece e = rw (eq-eqb (net.from k) (net.to k) e)
 
   module _ (ne : net.from k ≡ net.to k → ⊥) where
-    pub no_way : has (near net (but k) (net.to k) 64) (net.from k) ≡ false → Answer Nothing
+    pub no_way : has (near net (but k) (net.to k) 64) (net.from k) ≡ false → Answer None
     unfolding merges_by
     no_way h = rw (ne_eqb (net.from k) (net.to k) ne, h)
 
-    module _ (h : has (near net (but k) (net.to k) 64) (net.from k) ≡ true) {t : Trail} (e : t ≡ trail_of net low high k) where
-      pub low_twice : (t.low.twice ≡ 0 → ⊥) → Answer Nothing
-      unfolding merges_by
-      low_twice n =
-          rw (ne_eqb (net.from k) (net.to k) ne, h, ne_eqb (trail_of net low high k).low.twice 0 (λ z. n (ap (λ (u : Trail). u.low.twice) e ∙ z)))
-
-      pub high_twice : t.low.twice ≡ 0 → (t.high.twice ≡ 0 → ⊥) → Answer Nothing
-      unfolding merges_by
-      high_twice l n =
-          rw (
-            ne_eqb (net.from k) (net.to k) ne,
-            h,
-            eq-eqb (trail_of net low high k).low.twice 0 (ap (λ (u : Trail). u.low.twice) (sym e) ∙ l),
-            ne_eqb (trail_of net low high k).high.twice 0 (λ z. n (ap (λ (u : Trail). u.high.twice) e ∙ z)),
-          )
-
-      pub is_sparing : t.low.twice ≡ 0 → t.high.twice ≡ 0 → Answer (Sparing t.touched)
-      unfolding merges_by
-      is_sparing l g =
-          rw (
-            ne_eqb (net.from k) (net.to k) ne,
-            h,
-            eq-eqb (trail_of net low high k).low.twice 0 (ap (λ (u : Trail). u.low.twice) (sym e) ∙ l),
-            eq-eqb (trail_of net low high k).high.twice 0 (ap (λ (u : Trail). u.high.twice) (sym e) ∙ g),
-          ) (ap (λ (u : Trail). Sparing u.touched) e)
+    pub sparing : has (near net (but k) (net.to k) 64) (net.from k) ≡ true → {t : Trail} → t ≡ trail_of net low high k
+        → {b : Bool} → b ≡ (eqb t.low.twice 0 && eqb t.high.twice 0) → Answer (then_some b t.touched)
+    unfolding merges_by
+    sparing h {t} e {b} is =
+        when b ∙ rw (is, e) (sym (rw (ne_eqb (net.from k) (net.to k) ne, h)))
+      where
+        when : (a : Bool) → then_some a t.touched ≡ cond a (Some t.touched) None
+        when true = refl
+        when false = refl
 
 -- what an answer on one lightpath says of the test
-is_ring : Ring → Bool
-is_ring (Sparing s) = true
-is_ring Nothing = false
+pub ring_hit : {b : Bool} {s u : Side} → Some s ≡ cond b (Some u) None → (b ≡ true) × (s ≡ u)
+ring_hit {b = true} e = (refl, cc)
+ring_hit {b = false} e = cc
 
-pub ring_hit : (b : Bool) (u : ℕ) {s : ℕ} → Sparing s ≡ cond b (Sparing u) Nothing → (b ≡ true) × (Sparing s ≡ Sparing u)
-unfolding is_ring
-ring_hit true u e = (refl, e)
-ring_hit false u e = absurd (false≢true (ap is_ring (sym e)))
-
-pub ring_miss : (b : Bool) (u : ℕ) → Nothing ≡ cond b (Sparing u) Nothing → b ≡ false
-unfolding is_ring
-ring_miss true u e = absurd (false≢true (ap is_ring e))
+pub ring_miss : (b : Bool) (u : Side) → None ≡ cond b (Some u) None → b ≡ false
+ring_miss true u e = cc
 ring_miss false u e = refl
-
-pub ring_same : {s u : ℕ} → Sparing s ≡ Sparing u → s ≡ u
-ring_same e = cc

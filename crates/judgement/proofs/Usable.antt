@@ -1,13 +1,14 @@
 -- What a usable struct has, test by test, and what the code relies on in its arrays. The struct of a well-formed book is usable.
 use Prim.Native.Nat.{ℕ, ◌≤◌, ◌<◌}
 use mathlib.Core.Path.{◌≡◌, refl, sym, ap, ◌∙◌, subst}
-use mathlib.Core.List.{List}
+use mathlib.Core.List.{List, [], ◌∷◌}
 use mathlib.Core.Bool.{true, false, not, ◌&&◌}
 use native.Mathlib.Decide.{dec_lt}
 use native.Mathlib.Omega.{arith}
 use lib.ListN.{length, get_or, get_or-eq_default}
 use lib.Dec.{ltb}
 use borrow.Author.Tests.{lt-ltb, le-ltb, ltb-true, ltb-false, not-true}
+use Rattle.std.specs.List.{list_all}
 use Rattle.book.specs.declared.Book.{Book}
 use Rattle.book.specs.Book.{Lightpath, RouteBook, below, well_formed}
 use Rattle.book.specs.Bits.{has, station_set}
@@ -38,6 +39,12 @@ module _ (b : Book) where
       pub by_the_ends : lowest_in b ≤ 63 → (below 64 b.from && below 64 b.to) ≡ usable b
       by_the_ends h = rw (le-ltb 96 b.lightpaths few, le-ltb 128 b.spans short, lt-ltb (lowest_in b) 64 (omega arith))
 
+-- all of a list are below n where each passes the test
+pub below_each : (n : ℕ) (xs : List ℕ) → list_all (λ x. ltb x n) xs ≡ below n xs
+unfolding below
+below_each n [] = refl
+below_each n (x ∷ xs) = rw (below_each n xs) refl
+
 -- what they tell
 module _ {b : Book} (u : Usable b) where
   first : (not (ltb 96 b.lightpaths) ≡ true) × ((not (ltb 128 b.spans) && (ltb (lowest_in b) 64 && (below 64 b.from && below 64 b.to))) ≡ true)
@@ -58,13 +65,11 @@ module _ {b : Book} (u : Usable b) where
   pub usable_start : lowest_in b < 64
   usable_start = ltb-true (lowest_in b) 64 third.0
 
-  pub usable_fits : length b.from ≡ 96 → length b.to ≡ 96 → Fits b.lightpaths b.from b.to
-  usable_fits from_long to_long =
+  pub usable_fits : Fits b.lightpaths b.from b.to
+  usable_fits =
       let ends = and_inv {a = below 64 b.from} third.1 in
       record {
         few = usable_lightpaths;
-        from_long = from_long;
-        to_long = to_long;
         from_low = λ k. low b.from ends.0 k (dec_lt k (length b.from));
         to_low = λ k. low b.to ends.1 k (dec_lt k (length b.to));
       }

@@ -1,5 +1,5 @@
 -- What the functions that close a node tell each other, in the arrays of a book: nothing beyond docs/SITES.md to believe.
-use Rattle.std.specs.Prelude.{ℕ, ◌*◌, ◌<◌, ◌≡◌, List, [], ◌∷◌, cond, not, eqb, length, get_or, take, drop}
+use Rattle.std.specs.Prelude.{ℕ, ◌*◌, ◌<◌, ◌≡◌, List, [], ◌∷◌, cond, not, eqb, length, get_or, take, drop, Option, None}
 use Rattle.std.specs.Int.Bits.{bit_xor}
 use Rattle.std.specs.Int.Count.{count_trailing_zeros}
 use Rattle.book.specs.declared.Book.{Book}
@@ -8,8 +8,8 @@ use Rattle.book.specs.Bits.{has, put}
 use Rattle.judgement.specs.Network.{side_of}
 use Rattle.judgement.specs.Judgement.{first_of}
 use Rattle.judgement.specs.Inside.{net_of, unset}
-use Rattle.judgement.specs.declared.Site.{Site}
-use Rattle.judgement.specs.declared.Site.TheVariants.{Down, Okay}
+use Rattle.judgement.specs.Sites.{down_at}
+use Rattle.judgement.specs.declared.Down.{Down}
 
 -- the ends of the spans stand in two arrays, and are numbers below 64
 pub record EndsLow (left right : List ℕ) : Type 0 where
@@ -49,5 +49,5 @@ side_left_in all n from to words v =
 abbrev pub side_left_by : Book → List ℕ → ℕ → ℕ
 side_left_by b words v = side_left_in b.stations b.lightpaths b.from b.to words v
 
-abbrev pub site_in : Book → List ℕ → Site
-site_in b words = first_of (λ v. not (eqb (side_left_by b words v) (left_in b.stations v))) (λ v. Down v (side_left_by b words v)) Okay b.nodes 0
+abbrev pub site_in : Book → List ℕ → Option Down
+site_in b words = first_of (λ v. not (eqb (side_left_by b words v) (left_in b.stations v))) (λ v. down_at v (side_left_by b words v)) None b.nodes 0

@@ -1,5 +1,5 @@
 -- Contraction, docs/CONTRACTION.md, section 3: single stations, then ring after ring, until a pass merges nothing; and what the second engine answers.
-use Rattle.std.specs.Prelude.{ℕ, zero, suc, ◌*◌, List, [], ◌∷◌, Bool, true, false, cond, not, ◌&&◌, ◌||◌, eqb, leb, ltb, length}
+use Rattle.std.specs.Prelude.{ℕ, zero, suc, ◌*◌, List, [], ◌∷◌, Bool, true, false, cond, not, ◌&&◌, ◌||◌, eqb, leb, ltb, length, Result, Ok, Err}
 use Rattle.book.specs.Book.{RouteBook, most_nodes}
 use Rattle.book.specs.Bits.{has}
 use Rattle.book.specs.Format.{Reading, good, refused}
@@ -10,7 +10,8 @@ use Rattle.judgement.specs.Ways.{lowest_of, near, way}
 use Rattle.judgement.specs.declared.Verdict.{Verdict}
 use Rattle.judgement.specs.declared.Verdict.TheVariants.{Over}
 use Rattle.judgement.specs.declared.Contracted.{Contracted}
-use Rattle.judgement.specs.declared.Contracted.TheVariants as contracted
+use Rattle.book.specs.Memory.{refusal}
+use Rattle.book.specs.declared.refusal.Refusal.{Refusal}
 
 -- how many of the lightpaths of a list are out
 unfoldable pub lost : (ℕ → Bool) → List ℕ → ℕ
@@ -81,6 +82,12 @@ module _ (m : RouteBook) where
   merge_count = let r = merges_in (most_nodes * most_nodes) (λ i. i) in first_of (λ x. ltb (limit m x) (load m x)) (λ x. 0) r (length m.spans) 0
 
 -- K16: the answer of the second engine
-abbrev pub contracted_of : Reading → Contracted
-contracted_of (good m) = contracted.Told (verdict_over m) (merge_count m)
-contracted_of (refused k p) = contracted.Refused k p
+abbrev pub contracted : Verdict → ℕ → Contracted
+contracted v n = record { verdict = v; merges = n }
+
+abbrev pub contraction_of : RouteBook → Contracted
+contraction_of m = contracted (verdict_over m) (merge_count m)
+
+abbrev pub contracted_of : Reading → Result Contracted Refusal
+contracted_of (good m) = Ok (contraction_of m)
+contracted_of (refused k p) = Err (refusal k p)

@@ -1,9 +1,10 @@
 -- What the functions ask of a book in memory, and what they tell each other of its loads: nothing beyond the judgement to believe.
-use Rattle.std.specs.Prelude.{ℕ, ◌+◌, ◌*◌, ◌<◌, ◌≤◌, ◌≡◌, List, true, length, get_or}
+use Rattle.std.specs.Prelude.{ℕ, ◌+◌, ◌*◌, ◌<◌, ◌≤◌, ◌≡◌, List, Bool, true, ltb, length, get_or, Option, Some}
 use Rattle.book.specs.declared.Book.{Book}
 use Rattle.book.specs.Book.{RouteBook, well_formed, most_spans, most_lightpaths, longest_route, count}
 use Rattle.book.specs.Memory.{book_of}
-use Rattle.judgement.specs.Arrays.{usable, load_in}
+use Rattle.judgement.specs.Arrays.{usable, load_in, limit_in}
+use Rattle.judgement.specs.declared.load.Overload.{Overload}
 
 -- b holds a well-formed book
 pub record Held (b : Book) : Type 0 where
@@ -30,3 +31,13 @@ pub record Counted (before route loads : List ℕ) : Type 0 where
 pub record Loads (b : Book) (loads : List ℕ) : Type 0 where
   pub long : length loads ≡ most_spans
   pub each : (x : ℕ) → x < most_spans → get_or loads x 0 ≡ load_in b x
+
+-- whether span x is over its limit by them, and the answer that names it
+abbrev pub is_over : Book → ℕ → Bool
+is_over b x = ltb (limit_in b x) (load_in b x)
+
+abbrev pub over_at : ℕ → ℕ → ℕ → Option Overload
+over_at x l w = Some (record { span = x; load = l; limit = w })
+
+abbrev pub over_in : Book → ℕ → Option Overload
+over_in b x = over_at x (load_in b x) (limit_in b x)

@@ -1,12 +1,11 @@
 -- What the private functions of the crate tell each other: a network held in arrays.
-use Rattle.std.specs.Prelude.{ℕ, zero, suc, ◌+◌, ◌^◌, ◌<◌, ◌≤◌, ◌≡◌, List, ◌⊎◌, Bool, true, false, cond, not, ◌&&◌, length, get_or, set, replicate, eqb}
+use Rattle.std.specs.Prelude.{ℕ, zero, suc, ◌+◌, ◌^◌, ◌<◌, ◌≤◌, ◌≡◌, List, ◌⊎◌, Bool, true, false, cond, not, ◌&&◌, length, get_or, set, replicate, eqb, Option, Some, None}
 use Rattle.std.specs.Int.Bits.{bit_and, bit_or, bit_xor}
 use Rattle.std.specs.Int.Count.{count_trailing_zeros}
 use Rattle.book.specs.Bits.{bit, has, put}
 use Rattle.book.specs.declared.Book.{Book}
 use Rattle.judgement.specs.declared.side.Growth.{Growth}
 use Rattle.judgement.specs.declared.kind.Parted.{Parted}
-use Rattle.judgement.specs.declared.kind.Parted.TheVariants.{At, Nowhere}
 use Rattle.judgement.specs.declared.Verdict.{Verdict}
 use Rattle.judgement.specs.declared.Verdict.TheVariants.{Cut}
 use Rattle.judgement.specs.Network.{Network, Link, side_of}
@@ -22,8 +21,6 @@ up_of up k = get_or up k false
 -- what the code relies on in such arrays
 pub record Fits (n : ℕ) (from to : List ℕ) : Type 0 where
   pub few : n ≤ 96
-  pub from_long : length from ≡ 96
-  pub to_long : length to ≡ 96
   pub from_low : (k : ℕ) → get_or from k 0 < 64
   pub to_low : (k : ℕ) → get_or to k 0 < 64
 
@@ -80,15 +77,18 @@ unset words i k = not (has (get_or words k 0) i)
 abbrev pub clear : List ℕ → List ℕ → ℕ → ℕ → ℕ → Bool
 clear lows highs low high k = eqb (bit_or (bit_and (get_or lows k 0) low) (bit_and (get_or highs k 0) high)) 0
 
--- with bit i of the words out: the side of the station `start`, whether it lacks a station, and the answer that names the span
-abbrev pub side_in : Book → ℕ → List ℕ → ℕ → ℕ
-side_in b start words i = side_of (net_of b.lightpaths b.from b.to) (unset words i) 64 start
+-- with bit i of the words out: the side of the lowest station, whether it lacks a station, and the answer that names the span
+abbrev pub side_in : Book → List ℕ → ℕ → ℕ
+side_in b words i = side_of (net_of b.lightpaths b.from b.to) (unset words i) 64 (count_trailing_zeros 64 b.stations)
 
-abbrev pub parts_in : Book → ℕ → List ℕ → ℕ → Bool
-parts_in b start words i = not (eqb (side_in b start words i) b.stations)
+abbrev pub parts_in : Book → List ℕ → ℕ → Bool
+parts_in b words i = not (eqb (side_in b words i) b.stations)
 
-abbrev pub cut_in : Book → ℕ → List ℕ → ℕ → ℕ → Parted
-cut_in b start words base i = At (base + i) (side_in b start words i)
+abbrev pub parted_at : ℕ → ℕ → Option Parted
+parted_at x d = Some (record { span = x; side = d })
+
+abbrev pub cut_in : Book → List ℕ → ℕ → ℕ → Option Parted
+cut_in b words base i = parted_at (base + i) (side_in b words i)
 
 -- lightpath k is not up, and its ends are not joined by those that are
 abbrev pub parted_by : ℕ → List ℕ → List ℕ → (ℕ → Bool) → ℕ → Bool
@@ -111,9 +111,9 @@ pub record EndsIn (n : ℕ) (from to : List ℕ) (d : ℕ) : Type 0 where
   pub to_in : (k : ℕ) → k < n → has d (get_or to k 0) ≡ true
 
 -- CUT at the span that was found, or else the verdict `out`
-abbrev pub cut_or : Verdict → Parted → Verdict
-cut_or out (At x d) = Cut x d
-cut_or out Nowhere = out
+abbrev pub cut_or : Verdict → Option Parted → Verdict
+cut_or out (Some p) = Cut p.span p.side
+cut_or out None = out
 
 -- how many of the numbers below k are in the set x
 unfoldable pub size : ℕ → ℕ → ℕ

@@ -1,14 +1,14 @@
 -- What the private functions of the second engine tell each other: ways and rings in a network held in arrays, and labels in arrays.
-use Rattle.std.specs.Prelude.{ℕ, ◌*◌, ◌<◌, ◌≤◌, ◌≡◌, List, [], ◌∷◌, Bool, true, cond, not, ◌&&◌, ◌||◌, eqb, length, get_or}
+use Rattle.std.specs.Prelude.{ℕ, ◌*◌, ◌<◌, ◌≤◌, ◌≡◌, List, [], ◌∷◌, Bool, true, cond, not, ◌&&◌, eqb, length, get_or, Option, Some}
 use Rattle.std.specs.Int.Bits.{bit_or, bit_and}
 use Rattle.book.specs.declared.Book.{Book}
 use Rattle.book.specs.Book.{RouteBook, most_nodes}
 use Rattle.book.specs.Memory.{remade}
 use Rattle.book.specs.Bits.{has, put}
 use Rattle.judgement.specs.Network.{Network}
-use Rattle.judgement.specs.Judgement.{stations, lowest}
+use Rattle.judgement.specs.Judgement.{stations, lowest, first_of}
 use Rattle.judgement.specs.Pieces.{labels}
-use Rattle.judgement.specs.Ways.{lowest_of, near, leads, way}
+use Rattle.judgement.specs.Ways.{near, leads, way}
 use Rattle.judgement.specs.Contraction.{merges_in, pieces}
 use Rattle.judgement.specs.declared.Verdict.{Verdict}
 use Rattle.judgement.specs.declared.Verdict.TheVariants.{Over, Split, Cut, Okay}
@@ -16,20 +16,14 @@ use Rattle.judgement.specs.declared.merge.Pieces.{Pieces}
 use Rattle.judgement.specs.declared.ways.Rounds.{Rounds}
 use Rattle.judgement.specs.declared.ring.Carried.{Carried}
 use Rattle.judgement.specs.declared.ring.Trail.{Trail}
-use Rattle.judgement.specs.declared.ring.Ring.{Ring}
-use Rattle.judgement.specs.declared.ring.Ring.TheVariants.{Sparing}
+use Rattle.judgement.specs.declared.side.Side.{Side}
+use Rattle.judgement.specs.declared.net.Net.{Net}
 
 -- all lightpaths but one
 abbrev pub but : ℕ → ℕ → Bool
 but skip k = not (eqb k skip)
 
--- one lightpath of a round; whether one leads from x into the set m, and where to
-unfoldable pub spread_by : Bool → ℕ → ℕ → ℕ → ℕ → ℕ
-spread_by f old a b all = cond (f && (has old a || has old b)) (put (put all a) b) all
-
-unfoldable pub leads_by : Bool → ℕ → ℕ → ℕ → ℕ → Bool
-leads_by f x m a b = f && ((eqb a x && has m b) || (eqb b x && has m a))
-
+-- where a lightpath from a to b leads from x
 abbrev pub far_by : ℕ → ℕ → ℕ → ℕ
 far_by x a b = cond (eqb a x) b a
 
@@ -41,18 +35,13 @@ pub record RoundsTo (net : Network) (free : ℕ → Bool) (y x : ℕ) (r : Round
   pub met : has (near net free y 64) x ≡ has (near net free y r.last) x
   pub same : has (near net free y r.last) x ≡ true → way net free y 64 x ≡ way net free y r.last x
 
--- the words of the routes, a set of spans each
-pub record Words (low high : List ℕ) : Type 0 where
-  pub low_long : length low ≡ 152
-  pub high_long : length high ≡ 152
-
 -- one word more: what was seen in some word, and what in two
 abbrev pub seen_by : Carried → ℕ → Carried
 seen_by c w = record { once = bit_or c.once w; twice = bit_or c.twice (bit_and c.once w) }
 
 -- a trail with one lightpath more, from a to b
 abbrev pub trail_by : Trail → ℕ → ℕ → ℕ → ℕ → Trail
-trail_by t a b l h = record { at = far_by t.at a b; touched = put (put t.touched a) b; low = seen_by t.low l; high = seen_by t.high h }
+trail_by t a b l h = record { at = far_by t.at a b; touched = record { mask = put (put t.touched.mask a) b }; low = seen_by t.low l; high = seen_by t.high h }
 
 module _ (net : Network) (low high : List ℕ) where
   abbrev pub with_path : Trail → ℕ → Trail
@@ -65,7 +54,7 @@ module _ (net : Network) (low high : List ℕ) where
 
   -- nothing is gathered yet, at the piece y
   abbrev pub empty_trail : ℕ → Trail
-  empty_trail y = record { at = y; touched = 0; low = record { once = 0; twice = 0 }; high = record { once = 0; twice = 0 } }
+  empty_trail y = record { at = y; touched = record { mask = 0 }; low = record { once = 0; twice = 0 }; high = record { once = 0; twice = 0 } }
 
   -- K11: the ring of k and what it gathers: from the "to" of k over k itself to its "from", and on by the way
   abbrev pub ring_by : ℕ → List ℕ
@@ -80,12 +69,12 @@ module _ (net : Network) (low high : List ℕ) where
       not (eqb (net.from k) (net.to k))
       && (has (near net (but k) (net.to k) 64) (net.from k) && (eqb (trail_of k).low.twice 0 && eqb (trail_of k).high.twice 0))
 
-  abbrev pub ring_at : ℕ → Ring
-  ring_at k = Sparing (trail_of k).touched
+  abbrev pub ring_at : ℕ → Option Side
+  ring_at k = Some (trail_of k).touched
 
 -- one step nearer, into the set m
 unfoldable pub nearer_by : Network → (ℕ → Bool) → List ℕ → List ℕ → ℕ → Trail → Trail
-nearer_by net free low high m t = cond (has m t.at) t (with_path net low high t (lowest_of (leads net free t.at m) net.count))
+nearer_by net free low high m t = cond (has m t.at) t (first_of (leads net free t.at m) (with_path net low high t) t net.count 0)
 
 -- the first k of n places by a function
 pub record Table (n : ℕ) (f : ℕ → ℕ) (k : ℕ) (r : List ℕ) : Type 0 where
@@ -96,6 +85,12 @@ pub record Table (n : ℕ) (f : ℕ → ℕ) (k : ℕ) (r : List ℕ) : Type 0 w
 abbrev pub relabelled : ℕ → ℕ → ℕ → ℕ
 relabelled ring lowest q = cond (has ring q) lowest q
 
+-- the network r is another with the labels of its ends in their place
+pub record NetOver (label : List ℕ) (net r : Net) : Type 0 where
+  pub count : r.n ≡ net.n
+  pub from : Table 96 (λ k. get_or label (get_or net.from k 0) 0) 96 r.from
+  pub to : Table 96 (λ k. get_or label (get_or net.to k 0) 0) 96 r.to
+
 -- the array has the labels of the nodes; no label is above its node, and none of a station is below the lowest station
 pub record Labelled (m : RouteBook) (piece : ℕ → ℕ) (label : List ℕ) : Type 0 where
   pub long : length label ≡ 64
@@ -105,7 +100,7 @@ pub record Labelled (m : RouteBook) (piece : ℕ → ℕ) (label : List ℕ) : T
 
 -- the pieces that the engine ends with, and how many merges that were
 pub record PiecesOf (m : RouteBook) (r : Pieces) : Type 0 where
-  pub labelled : Labelled m (pieces m) r.label
+  pub labelled : Labelled m (pieces m) r.labels.of
   pub counted : r.merges ≡ merges_in m (most_nodes * most_nodes) (λ i. i)
 
 -- the struct b with other ends and stations

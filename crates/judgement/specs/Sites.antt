@@ -1,5 +1,5 @@
 -- A site down: the other stations when a node is closed, with every lightpath that meets it: docs/SITES.md.
-use Rattle.std.specs.Prelude.{ℕ, ◌^◌, ◌<◌, ◌≤◌, ◌≡◌, ◌↔◌, Bool, true, false, cond, not, eqb, length, set}
+use Rattle.std.specs.Prelude.{ℕ, ◌^◌, ◌<◌, ◌≤◌, ◌≡◌, ◌↔◌, Bool, true, false, cond, not, eqb, length, set, Option, Some, None, Result, Ok, Err}
 use Rattle.std.specs.Int.Count.{count_trailing_zeros}
 use Rattle.book.specs.Book.{RouteBook, most_nodes, among, met_on}
 use Rattle.book.specs.Bits.{has, station_set}
@@ -10,10 +10,9 @@ use Rattle.judgement.specs.Judgement.{network, stations, first_of}
 use Rattle.judgement.specs.Meaning.{Least}
 use Rattle.judgement.specs.declared.Verdict.{Verdict}
 use Rattle.judgement.specs.declared.Verdict.TheVariants as verdict
-use Rattle.judgement.specs.declared.Site.{Site}
-use Rattle.judgement.specs.declared.Site.TheVariants.{Down, Okay}
-use Rattle.judgement.specs.declared.Closed.{Closed}
-use Rattle.judgement.specs.declared.Closed.TheVariants as closed
+use Rattle.book.specs.Memory.{fault_number, refusal}
+use Rattle.book.specs.declared.refusal.Refusal.{Refusal}
+use Rattle.judgement.specs.declared.Down.{Down}
 
 -- D1: lightpath k meets node v where its route does
 abbrev pub meets : RouteBook → ℕ → ℕ → Bool
@@ -39,8 +38,11 @@ abbrev pub stands : RouteBook → ℕ → Bool
 stands m v = eqb (side_left m v) (stations_left m v)
 
 -- D6, D7: DOWN at the lowest node whose closing parts the others, else OK
-abbrev pub site_of : RouteBook → Site
-site_of m = first_of (λ v. not (stands m v)) (λ v. Down v (side_left m v)) Okay (length m.nodes) 0
+abbrev pub down_at : ℕ → ℕ → Option Down
+down_at v d = Some (record { node = v; side = d })
+
+abbrev pub site_of : RouteBook → Option Down
+site_of m = first_of (λ v. not (stands m v)) (λ v. down_at v (side_left m v)) None (length m.nodes) 0
 
 -- What the answer means, without the search that finds it and without the side that is computed
 module _ (m : RouteBook) where
@@ -64,9 +66,9 @@ module _ (m : RouteBook) where
     pub holds : (i : ℕ) → (has d i ≡ true) ↔ Joined (network m) (spared m v) from i
 
   -- D6, D7: the two kinds, each with its own numbers
-  pub data SiteGiven : Site → Type 0 where
-    down : (v d : ℕ) → Least IsDown (length m.nodes) v → IsSide v d → SiteGiven (Down v d)
-    okay : ((v : ℕ) → v < length m.nodes → OthersJoined v) → SiteGiven Okay
+  pub data SiteGiven : Option Down → Type 0 where
+    down : (v d : ℕ) → Least IsDown (length m.nodes) v → IsSide v d → SiteGiven (down_at v d)
+    okay : ((v : ℕ) → v < length m.nodes → OthersJoined v) → SiteGiven None
 
   -- D10: three stations at least
   pub record Three : Type 0 where
@@ -86,9 +88,9 @@ pub data OkayOrOver : Verdict → Type 0 where
   is_over : (x l w : ℕ) → OkayOrOver (verdict.Over x l w)
 
 -- D8: what the operation answers
-abbrev pub closed_of : Reading → Closed
-closed_of (good m) = closed.Told (site_of m)
-closed_of (refused k p) = closed.Refused k p
+abbrev pub closed_of : Reading → Result (Option Down) Refusal
+closed_of (good m) = Ok (site_of m)
+closed_of (refused k p) = Err (refusal k p)
 
 -- D9: the numbers of an answer, for each of its cases; whatever it does not carry is 0
 pub record SiteNumbers : Type 0 where
@@ -97,7 +99,7 @@ pub record SiteNumbers : Type 0 where
   pub node : ℕ
   pub side : ℕ
 
-abbrev pub closed_numbers : Closed → SiteNumbers
-closed_numbers (closed.Told (Down v d)) = record { number = 0; place = 0; node = v; side = d }
-closed_numbers (closed.Told Okay) = record { number = 0; place = 0; node = 0; side = 0 }
-closed_numbers (closed.Refused k p) = record { number = k; place = p; node = 0; side = 0 }
+abbrev pub closed_numbers : Result (Option Down) Refusal → SiteNumbers
+closed_numbers (Ok (Some s)) = record { number = 0; place = 0; node = s.node; side = s.side }
+closed_numbers (Ok None) = record { number = 0; place = 0; node = 0; side = 0 }
+closed_numbers (Err r) = record { number = fault_number r.fault; place = r.place; node = 0; side = 0 }

@@ -1,145 +1,75 @@
 // The verdict alone on a book as it stands, and so on the book that a choice makes: for the search, and for contraction. `walk.rt` has it with the score.
-ghost use Rattle.std.specs.Prelude.{◌≡◌, ◌≤◌, ◌<◌, length};
-ghost use Rattle.book.specs.Book.{below};
-ghost use Rattle.judgement.specs.Judgement.{all_up, first_of};
-ghost use Rattle.judgement.specs.Arrays.{usable, lowest_in, side_by, cut_or_okay_in, split_or_in, verdict_in};
-ghost use Rattle.judgement.specs.Inside.{Fits, parts_in, cut_in, cut_or};
-ghost use Rattle.judgement.specs.Holding.{Usable};
+ghost use Rattle.std.specs.Prelude.{◌≡◌, None, ◌≤◌, ◌<◌};
+ghost use Rattle.judgement.specs.Judgement.{first_of};
+ghost use Rattle.judgement.specs.Arrays.{cut_or_okay_in, split_or_in, verdict_in};
+ghost use Rattle.judgement.specs.Inside.{parts_in, cut_in, cut_or};
+ghost use Rattle.judgement.specs.declared.Verdict.TheVariants.{Okay};
 
+use crate::judgeable::Judgeable;
 use crate::load::Overload;
-use crate::side::Side;
-use crate::{Verdict, load, side};
+use crate::{Verdict, load};
 use book::Book;
 
-// The lowest span that parts the stations, with the side then.
+// A span that parts the stations, with the side then.
 #[derive(Clone, Copy)]
-pub(crate) enum Parted {
-    At(u8, u64),
-    Nowhere,
+pub(crate) struct Parted {
+    pub span: u8,
+    pub side: u64,
 }
 
 // The first of `count` spans from `base` on whose loss parts the stations: span base + i is bit i of a lightpath's word.
-fn first_cut(b: Book, start: u8, words: [u64; 152], base: u8, count: u8) -> Parted
-    requires { (start < 64) × Fits b.lightpaths b.from b.to × (length words ≡ 152) × (count ≤ 64) × (base ≤ 64) }
-    ensures { result ≡ first_of (parts_in b start words) (cut_in b start words base) Parted.Nowhere count 0 }
+fn first_cut(b: &Judgeable, words: &[u64; 152], base: u8, count: u8) -> Option<Parted>
+    requires { (count ≤ 64) × (base ≤ 64) }
+    ensures { result ≡ first_of (parts_in b.now.book words.now) (cut_in b.now.book words.now base) None count 0 }
 {
-    let n = b.lightpaths as usize;
-    let mut i = 0;
-    while i < count {
-        let s = side::side_without(start, &b.from, &b.to, &words, i, n);
-        if s.mask != b.stations {
-            return Parted::At(base + i, s.mask);
-        }
-        i += 1;
-    }
-    Parted::Nowhere
+    let net = b.net();
+    let start = b.lowest();
+    (0..count).find_map(|i| {
+        let side = net.side_without(start, words, i);
+        (side != b.stations()).then_some(Parted {
+            span: base + i,
+            side: side.mask,
+        })
+    })
 }
 
-// The lowest station.
-fn lowest_of(b: Book) -> u8
-    ensures { result ≡ lowest_in b }
-{
-    let all = Side { mask: b.stations };
-    all.lowest()
-}
-
-// The side with all lightpaths up.
-pub(crate) fn intact(b: Book) -> Side
-    requires { Usable b }
-    ensures { result.mask ≡ side_by b all_up }
-{
-    let n = b.lightpaths as usize;
-    side::side_whole(lowest_of(b), &b.from, &b.to, n)
-}
-
-// CUT at the span that was found, or else the verdict given.
-pub(crate) fn cut_or(found: Parted, rest: Verdict) -> Verdict
-    ensures { result ≡ cut_or rest found }
+// CUT at the span that was found, or else OK.
+pub(crate) fn cut_or_okay(found: Option<Parted>) -> Verdict
+    ensures { result ≡ cut_or Okay found }
 {
     match found {
-        Parted::At(x, d) => Verdict::Cut(x, d),
-        Parted::Nowhere => rest,
+        Some(Parted { span, side }) => Verdict::Cut(span, side),
+        None => Verdict::Okay,
     }
 }
 
-// CUT at the lowest span whose loss parts the stations, or OK: the spans below 64 are looked at first, then the others.
-fn cut_or_okay(b: Book) -> Verdict
-    requires { Usable b }
-    ensures { result ≡ cut_or_okay_in b }
+// The lowest span whose loss parts the stations: the spans below 64 are looked at first, then the others.
+fn lowest_cut(b: &Judgeable) -> Option<Parted>
+    ensures { cut_or Okay result ≡ cut_or_okay_in b.now.book }
 {
-    let start = lowest_of(b);
-    let spans = b.spans;
-    let few = side::low_spans(spans);
-    let low = b.low;
-    let high = b.high;
-    let first = first_cut(b, start, low, 0, few);
-    if let Parted::At(x, d) = first {
-        return Verdict::Cut(x, d);
-    }
-    let second = first_cut(b, start, high, 64, spans - few);
-    cut_or(second, Verdict::Okay)
+    let few = b.book.spans.min(64);
+    first_cut(b, &b.book.low, 0, few).or_else(|| first_cut(b, &b.book.high, 64, b.book.spans - few))
 }
 
-// SPLIT where with all lightpaths up some station is not joined, or what `cut_or_okay` says.
-pub(crate) fn split_or(b: Book) -> Verdict
-    requires { Usable b }
-    ensures { result ≡ split_or_in b }
+// SPLIT where with all lightpaths up some station is not joined, or else CUT at the lowest span whose loss parts the stations, or OK.
+pub(crate) fn split_or(b: &Judgeable) -> Verdict
+    ensures { result ≡ split_or_in b.now.book }
 {
-    let whole = intact(b);
-    if whole.mask != b.stations {
-        return Verdict::Split(whole.mask);
+    match b.split() {
+        Some(side) => Verdict::Split(side.mask),
+        None => cut_or_okay(lowest_cut(b)),
     }
-    cut_or_okay(b)
-}
-
-// Whether all numbers are those of nodes.
-fn all_nodes(xs: &[u8]) -> bool
-    ensures { result ≡ below 64 xs.now }
-{
-    let mut k = 0;
-    while k < xs.len() {
-        if 63 < xs[k] {
-            return false;
-        }
-        k += 1;
-    }
-    true
-}
-
-// Whether the counts and ends of a struct are such as a book can have, so that each of its arrays can be read without a further test.
-fn usable(b: Book) -> bool
-    ensures { result ≡ usable b }
-{
-    if 96 < b.lightpaths {
-        return false;
-    }
-    if 128 < b.spans {
-        return false;
-    }
-    let stations = Side { mask: b.stations };
-    let start = stations.lowest();
-    if 63 < start {
-        return false;
-    }
-    let from = b.from;
-    let to = b.to;
-    if !all_nodes(&from) {
-        return false;
-    }
-    all_nodes(&to)
 }
 
 // The verdict on a book in memory: OVER at the lowest span whose load exceeds its limit, or what `split_or` says.
 pub fn verdict_of(b: Book) -> Verdict
     ensures { result ≡ verdict_in b }
 {
-    if !usable(b) {
+    let Some(b) = Judgeable::of(b) else {
         return Verdict::Split(0);
-    }
-    let loads = load::loads_of(b);
-    let first = load::first_over(b, loads);
-    match first {
-        Overload::At(x, l, w) => Verdict::Over(x, l, w),
-        Overload::Nowhere => split_or(b),
+    };
+    match load::first_over(&b, &load::loads_of(&b)) {
+        Some(Overload { span, load, limit }) => Verdict::Over(span, load, limit),
+        None => split_or(&b),
     }
 }

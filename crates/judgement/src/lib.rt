@@ -3,9 +3,12 @@
 // The second engine judges by contraction, which docs/CONTRACTION.md tells.
 #![tactic(auto)]
 
+mod judgeable;
 pub mod kind;
+mod label;
 mod load;
 mod merge;
+mod net;
 mod node;
 mod pairs;
 mod question;
@@ -21,7 +24,8 @@ ghost use Rattle.judgement.specs.Answers.{judged_of, asked_of, asked_set_of};
 ghost use Rattle.judgement.specs.Contraction.{contracted_of};
 ghost use Rattle.judgement.specs.Sites.{closed_of};
 
-use book::{Answer, choice};
+use book::choice;
+use book::refusal::Refusal;
 
 // The first that holds: a span over its limit, with its load and limit; a network that is split, with the side; a span whose loss parts the stations, with
 // the side then; or none of these.
@@ -33,102 +37,66 @@ pub enum Verdict {
     Okay,
 }
 
-// The answer of `judge`: the verdict and the scores F and Fc, or a refusal's number and place.
+// The answer of `judge`: the verdict and the scores F and Fc.
 #[derive(Clone, Copy)]
-pub enum Judged {
-    Told(Verdict, u16, u16),
-    Refused(u8, usize),
+pub struct Judged {
+    pub verdict: Verdict,
+    pub f: u16,
+    pub fc: u16,
 }
 
-// The answer of `ask` and `ask_set`: the side with the span or the spans out and whether it holds all stations, or a refusal's number and place.
+// The answer of `ask` and `ask_set`: the side with the span or the spans out, and whether it holds all stations.
 #[derive(Clone, Copy)]
-pub enum Asked {
-    Told(u64, bool),
-    Refused(u8, usize),
+pub struct Asked {
+    pub side: u64,
+    pub whole: bool,
 }
 
-// The answer of `contract`: the verdict and how many merges were made, or a refusal's number and place.
+// The answer of `contract`: the verdict and how many merges were made.
 #[derive(Clone, Copy)]
-pub enum Contracted {
-    Told(Verdict, u16),
-    Refused(u8, usize),
+pub struct Contracted {
+    pub verdict: Verdict,
+    pub merges: u16,
 }
 
-// The lowest node whose closing parts the stations that are left, with the side of the lowest of them then; or that there is none.
+// The answer of `close` where there is one: the lowest node whose closing parts the stations that are left, with the side of the lowest of them then.
 #[derive(Clone, Copy)]
-pub enum Site {
-    Down(u8, u64),
-    Okay,
-}
-
-// The answer of `close`: what closing a node does, or a refusal's number and place.
-#[derive(Clone, Copy)]
-pub enum Closed {
-    Told(Site),
-    Refused(u8, usize),
+pub struct Down {
+    pub node: u8,
+    pub side: u64,
 }
 
 // Judges choice n of a book, and scores it.
-pub fn judge(s: &[u8], n: u32) -> Judged
+pub fn judge(s: &[u8], n: u32) -> Result<Judged, Refusal>
     ensures { result ≡ judged_of (chosen_of (reading s.now) n) }
 {
-    let reply = choice::choose(s, n);
-    let answer = reply.answer;
-    let b = reply.book;
-    match answer {
-        Answer::Good => walk::judged_of(b),
-        Answer::Refused(no, place) => Judged::Refused(no, place),
-    }
+    Ok(walk::judged_of(choice::choose(s, n)?))
 }
 
 // Asks about span x in choice n of a book: who is joined with it out.
-pub fn ask(s: &[u8], n: u32, x: u32) -> Asked
+pub fn ask(s: &[u8], n: u32, x: u32) -> Result<Asked, Refusal>
     ensures { result ≡ asked_of (chosen_of (reading s.now) n) x }
 {
-    let reply = choice::choose(s, n);
-    let answer = reply.answer;
-    let b = reply.book;
-    match answer {
-        Answer::Good => question::asked_of(b, x),
-        Answer::Refused(no, place) => Asked::Refused(no, place),
-    }
+    question::asked_of(choice::choose(s, n)?, x)
 }
 
 // Asks about a set of spans in choice n of a book: who is joined with all of them out. Bit i of `low` is span i, and bit i of `high` span 64 + i.
-pub fn ask_set(s: &[u8], n: u32, low: u64, high: u64) -> Asked
+pub fn ask_set(s: &[u8], n: u32, low: u64, high: u64) -> Result<Asked, Refusal>
     ensures { result ≡ asked_set_of (chosen_of (reading s.now) n) low high }
 {
-    let reply = choice::choose(s, n);
-    let answer = reply.answer;
-    let b = reply.book;
-    match answer {
-        Answer::Good => question::set_asked_of(b, low, high),
-        Answer::Refused(no, place) => Asked::Refused(no, place),
-    }
+    question::set_asked_of(choice::choose(s, n)?, low, high)
 }
 
 // Judges choice n of a book by contraction, the second engine: the verdict is that of `judge`, and the number of merges comes with it.
-pub fn contract(s: &[u8], n: u32) -> Contracted
+pub fn contract(s: &[u8], n: u32) -> Result<Contracted, Refusal>
     ensures { result ≡ contracted_of (chosen_of (reading s.now) n) }
 {
-    let reply = choice::choose(s, n);
-    let answer = reply.answer;
-    let b = reply.book;
-    match answer {
-        Answer::Good => merge::contracted_of(b),
-        Answer::Refused(no, place) => Contracted::Refused(no, place),
-    }
+    Ok(merge::contracted_of(choice::choose(s, n)?))
 }
 
-// Judges choice n of a book with its nodes closed one at a time, each with every lightpath that meets it: who of the other stations is joined.
-pub fn close(s: &[u8], n: u32) -> Closed
+// Judges choice n of a book with its nodes closed one at a time, each with every lightpath that meets it: the lowest whose closing parts the other stations.
+pub fn close(s: &[u8], n: u32) -> Result<Option<Down>, Refusal>
     ensures { result ≡ closed_of (chosen_of (reading s.now) n) }
 {
-    let reply = choice::choose(s, n);
-    let answer = reply.answer;
-    let b = reply.book;
-    match answer {
-        Answer::Good => node::closed_of(b),
-        Answer::Refused(no, place) => Closed::Refused(no, place),
-    }
+    Ok(node::closed_of(choice::choose(s, n)?))
 }

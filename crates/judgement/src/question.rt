@@ -1,53 +1,64 @@
 // The questions about one span and about a set of spans: who is joined with it out.
-ghost use Rattle.std.specs.Prelude.{◌≡◌, true, not, ◌^◌, ◌≤◌, ◌<◌, ltb, length};
+ghost use Rattle.std.specs.Prelude.{◌≡◌, true, not, ◌^◌, ◌≤◌, ◌<◌, ltb, nat_eq};
 ghost use Rattle.book.specs.Book.{RouteBook, well_formed};
 ghost use Rattle.book.specs.Memory.{book_of};
 ghost use Rattle.book.specs.Format.{good};
-ghost use Rattle.judgement.specs.Answers.{asked_of, asked_set_of};
+ghost use Rattle.judgement.specs.Answers.{asked, asked_of, asked_set_of};
 ghost use Rattle.judgement.specs.Arrays.{up_in, side_by};
-ghost use Rattle.judgement.specs.Inside.{up_table, clear};
-ghost use Rattle.judgement.specs.Holding.{Held, Usable};
+ghost use Rattle.judgement.specs.Inside.{clear, size};
+ghost use Rattle.judgement.specs.Holding.{Held};
 ghost use Rattle.judgement.specs.Withdrawn.{in_words, beyond};
 
+use crate::judgeable::Judgeable;
 use crate::side::Side;
 use crate::{Asked, side};
 use book::Book;
+use book::refusal::{Fault, Refusal};
 
 // The side with span x out.
-fn side_out(b: Book, x: u8) -> Side
-    requires { Usable b × (x < 128) }
-    ensures { result.mask ≡ side_by b (up_in b x) }
+fn side_out(b: &Judgeable, x: u8) -> Side
+    requires { x < 128 }
+    ensures { result.mask ≡ side_by b.now.book (up_in b.now.book x) }
 {
-    let all = Side { mask: b.stations };
-    let start = all.lowest();
-    let n = b.lightpaths as usize;
+    let net = b.net();
     if x < 64 {
-        side::side_without(start, &b.from, &b.to, &b.low, x, n)
+        net.side_without(b.lowest(), &b.book.low, x)
     } else {
-        side::side_without(start, &b.from, &b.to, &b.high, x - 64, n)
+        net.side_without(b.lowest(), &b.book.high, x - 64)
     }
 }
 
-// The side with span x out and whether it holds all stations; 13 where there is no such span.
-pub(crate) fn asked_of(b: Book, x: u32) -> Asked
+// What is told of a side: whether it holds all stations, which it does where it holds as many.
+fn asked(b: &Judgeable, side: Side) -> Asked
+    ensures { result ≡ asked side.mask (nat_eq (size 64 side.mask) (size 64 b.now.book.stations)) }
+{
+    Asked {
+        side: side.mask,
+        whole: side.size() == b.stations().size(),
+    }
+}
+
+// The side with span x out and whether it holds all stations; refused where there is no such span.
+#[tactic(auto, using(crate::proofs::Usable::held_usable))]
+pub(crate) fn asked_of(b: Book, x: u32) -> Result<Asked, Refusal>
     requires { Held b }
     ensures { (m : RouteBook) → b ≡ book_of m → well_formed m ≡ true → result ≡ asked_of (good m) x }
 {
-    if b.spans as u32 <= x {
-        return Asked::Refused(13, 0);
+    if x >= u32::from(b.spans) {
+        return Err(Refusal {
+            fault: Fault::NoSpan,
+            place: 0,
+        });
     }
-    let s = side_out(b, x as u8);
-    let all = Side { mask: b.stations };
-    let joined = s.size();
-    let stations = all.size();
-    Asked::Told(s.mask, joined == stations)
+    let b = Judgeable { book: b };
+    Ok(asked(&b, side_out(&b, x as u8)))
 }
 
 // Whether a word, a set of numbers below 64, has one that is not below n.
 fn past(word: u64, n: u8) -> bool
     ensures { result ≡ not (ltb word (2 ^ n)) }
 {
-    if n < 64 { word >> n != 0 } else { false }
+    n < 64 && word >> n != 0
 }
 
 // Whether a set of spans has one that is not below n.
@@ -55,54 +66,30 @@ fn beyond(low: u64, high: u64, n: u8) -> bool
     requires { n ≤ 128 }
     ensures { result ≡ beyond (in_words low high) n }
 {
-    let rest = n - side::low_spans(n);
-    past(low, n) | past(high, rest)
+    past(low, n) || past(high, n - n.min(64))
 }
 
-// Which of the first n lightpaths are up with a set of spans out: those whose words share no bit with it.
-fn up_with<'a>(
-    lows: &'a [u64; 152],
-    highs: &'a [u64; 152],
-    low: u64,
-    high: u64,
-    n: usize,
-) -> [bool; 96]
-    requires { (length lows.now ≡ 152) × (length highs.now ≡ 152) × (n ≤ 96) }
-    ensures { result ≡ up_table (clear lows.now highs.now low high) n }
+// The side with a set of spans out: the lightpaths are up whose words share no bit with it.
+fn side_with(b: &Judgeable, low: u64, high: u64) -> Side
+    ensures { result.mask ≡ side_by b.now.book (clear b.now.book.low b.now.book.high low high) }
 {
-    let mut up = [false; 96];
-    let mut k = 0;
-    while k < n {
-        up[k] = (lows[k] & low | highs[k] & high) == 0;
-        k += 1;
-    }
-    up
+    let net = b.net();
+    let up = side::up_where(net.n, |k| b.book.low[k] & low | b.book.high[k] & high == 0);
+    net.side_of(b.lowest(), &up)
 }
 
-// The side with a set of spans out.
-fn side_with(b: Book, low: u64, high: u64) -> Side
-    requires { Usable b }
-    ensures { result.mask ≡ side_by b (clear b.low b.high low high) }
-{
-    let all = Side { mask: b.stations };
-    let start = all.lowest();
-    let n = b.lightpaths as usize;
-    let up = up_with(&b.low, &b.high, low, high, n);
-    side::side_of(start, &b.from, &b.to, &up, n)
-}
-
-// The side with a set of spans out and whether it holds all stations; 13 where some number of the set is no span's.
-pub(crate) fn set_asked_of(b: Book, low: u64, high: u64) -> Asked
+// The side with a set of spans out and whether it holds all stations; refused where some number of the set is no span's.
+#[tactic(auto, using(crate::proofs::Usable::held_usable))]
+pub(crate) fn set_asked_of(b: Book, low: u64, high: u64) -> Result<Asked, Refusal>
     requires { Held b }
     ensures { (m : RouteBook) → b ≡ book_of m → well_formed m ≡ true → result ≡ asked_set_of (good m) low high }
 {
-    let n = b.spans;
-    if beyond(low, high, n) {
-        return Asked::Refused(13, 0);
+    if beyond(low, high, b.spans) {
+        return Err(Refusal {
+            fault: Fault::NoSpan,
+            place: 0,
+        });
     }
-    let s = side_with(b, low, high);
-    let all = Side { mask: b.stations };
-    let joined = s.size();
-    let stations = all.size();
-    Asked::Told(s.mask, joined == stations)
+    let b = Judgeable { book: b };
+    Ok(asked(&b, side_with(&b, low, high)))
 }

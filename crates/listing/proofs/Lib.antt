@@ -4,5 +4,6 @@ pub mod Spelling
 pub mod Numbers
 pub mod Moves
 pub mod Reports
+pub mod Told
 pub mod Listings
 pub mod Statuses

@@ -2,64 +2,45 @@
 use Prim.Native.Nat.{ℕ, ◌≤◌}
 use mathlib.Core.Path.{◌≡◌, sym, ap, ◌∙◌}
 use mathlib.Core.Bool.{Bool, true, false}
-use mathlib.Core.List.{List, [], ◌∷◌, ◌++◌, append_assoc}
+use mathlib.Core.List.{List, [], ◌∷◌, ◌++◌}
 use native.Mathlib.Omega.{arith}
 use lib.ListN.{length, take, length-append}
-use Rattle.book.specs.declared.Book.{Book}
-use Rattle.book.specs.declared.choice.Movables.{Movables}
-use Rattle.book.specs.declared.write.Written.{Written}
-use Rattle.book.specs.declared.write.Written.TheVariants as written
+use Rattle.book.specs.declared.refusal.Refusal.{Refusal}
+use Rattle.book.specs.Memory.{fault_number, number_of}
+use Rattle.std.specs.Prelude.{Result, Ok, Err}
 use Rattle.book.specs.Book.{RouteBook, well_formed}
 use Rattle.book.specs.Format.{Reading, reading, good, refused}
 use Rattle.book.specs.Choice.{product, sizes, digits, choices, chosen}
-use Rattle.book.specs.Moving.{movables_in, sizes_in}
-use Rattle.book.specs.Writing.{chosen_of, writing, written_of, written_number, written_length, buffer}
+use Rattle.book.specs.Writing.{chosen_of, writing, written_of, written_length, buffer}
 use Rattle.book.proofs.Readers.{Bytes}
 use Rattle.book.proofs.Unique.{refused_within}
 use Rattle.book.proofs.Format.{reading_only}
 use Rattle.book.proofs.Choices.{choices_some}
 use Rattle.book.proofs.Chosen.{choice_fits, chosen_sizes, chosen_none}
-use Rattle.book.proofs.Written.{total_is, such_a_choice}
+use Rattle.book.proofs.Written.{such_a_choice}
 use Rattle.book.proofs.ReadBack.{Denied, at_fault, no_choice, no_room, number_served, number_denied, room_enough}
 use Rattle.judgement.specs.Judgement.{verdict, score_f, score_fc}
-use Rattle.judgement.specs.Answers.{judged_of, asked_of}
-use Rattle.judgement.specs.Sites.{site_of, closed_of}
+use Rattle.judgement.specs.Answers.{asked_of}
+use Rattle.judgement.specs.Sites.{site_of}
 use Rattle.judgement.specs.declared.Asked.{Asked}
-use Rattle.judgement.specs.declared.Asked.TheVariants as asked
 use Rattle.search.specs.Search.{finding}
-use Rattle.search.specs.Answers.{searched_of}
 use Rattle.listing.specs.Text.{text_of}
 use Rattle.listing.specs.Report.{word_book, word_score, book_line, verdict_line, score_line, site_line, finding_line, moves_of, end_line}
 use Rattle.listing.specs.Commands.{word_choice, word_choices, word_joined, word_parted, word_written, choice_line, joined_line, choices_line, written_line}
 use Rattle.listing.specs.Commands.{judge_of, open_of, search_of, read_of, write_of}
-use Rattle.listing.specs.Inside.{Holds, judged_lines, closed_line, searched_lines, choice_lines}
 use Rattle.listing.specs.declared.text.Text.{Text}
 use Rattle.listing.proofs.Texts.{text_whole}
 use Rattle.listing.proofs.Reports.{behind_short, side_short, verdict_short, site_short, finding_short, moved_short, bad_short}
-
--- the struct of a book tells how many choices it has
-pub total_of : {b : Book} (m : RouteBook) → Holds b m → {w : Movables} {t : ℕ} → w ≡ movables_in b → t ≡ product (sizes_in w) → t ≡ choices m
-total_of m h e p = p ∙ ap (λ (w : Movables). product (sizes_in w)) e ∙ total_is m h.is h.fits
-
-module _ (m : RouteBook) (s : List ℕ) (n : ℕ) where
-  pub judge_good : chosen_of (reading s) n ≡ good m → choice_lines n m s ≡ judge_of n (chosen_of (reading s) n)
-  judge_good e =
-      ap (λ (g : Reading). choice_line n (choices m) ++ (judged_lines (judged_of g) ++ (closed_line (closed_of g) ++ end_line))) e
-      ∙ ap (λ (x : List ℕ). choice_line n (choices m) ++ x) (append_assoc (verdict_line (verdict m)) (score_line (score_f m) (score_fc m)) (site_line (site_of m) ++ end_line))
-      ∙ sym (ap (λ (g : Reading). judge_of n g) e)
-
-  pub search_good : reading s ≡ good m → searched_lines m (searched_of (reading s) n) ++ end_line ≡ search_of n (reading s)
-  search_good e = ap (λ (g : Reading). searched_lines m (searched_of g n) ++ end_line) e ∙ sym (ap (λ (g : Reading). search_of n g) e)
 
 -- the chosen book has as many choices as the book: T is the book's
 pub choices_kept : (m : RouteBook) (n : ℕ) → choices (chosen m n) ≡ choices m
 choices_kept m n = ap product (chosen_sizes m (digits (sizes m) n))
 
 -- WRITTEN AND ASKED AGAIN: r is the answer of `write` for choice n of the bytes s, and x the buffer `out` afterwards
-module _ (s : List ℕ) (n : ℕ) (out : List ℕ) (r : Written) (x : List ℕ) (h : Bytes s)
+module _ (s : List ℕ) (n : ℕ) (out : List ℕ) (r : Result ℕ Refusal) (x : List ℕ) (h : Bytes s)
     (met : (r ≡ written_of (writing s n (length out))) × (x ≡ buffer (writing s n (length out)) out)) where
   -- reading choice 0 of what was written is reading choice n, so every command says the same of both
-  pub written_same : written_number r ≡ 0 → chosen_of (reading (take (written_length r) x)) 0 ≡ chosen_of (reading s) n
+  pub written_same : number_of r ≡ 0 → chosen_of (reading (take (written_length r) x)) 0 ≡ chosen_of (reading s) n
   written_same z =
       let b = number_served s n out r x h met z in
       let m = b.book in
@@ -71,7 +52,7 @@ module _ (s : List ℕ) (n : ℕ) (out : List ℕ) (r : Written) (x : List ℕ) 
       ∙ sym (ap (λ (g : Reading). chosen_of g n) b.reads ∙ such_a_choice m n b.below)
 
   -- a buffer of 4,096 bytes is never too short
-  pub never_eleven : length out ≡ 4096 → written_number r ≡ 11 → ⊥
+  pub never_eleven : length out ≡ 4096 → number_of r ≡ 11 → ⊥
   never_eleven l e = go (number_denied s n out r x h met (λ z. omega (arith, z, e))).0 e
     where
       go : {k p : ℕ} → Denied s n (length out) k p → k ≡ 11 → ⊥
@@ -97,13 +78,13 @@ judge_short n (good c) =
     )
 judge_short n (refused k p) = omega (arith, bad_short k p)
 
-pub open_short : (a : Asked) → length (open_of a) ≤ 428
-open_short (asked.Told d all) = omega (arith, length-append (joined_line d all) end_line, go all)
+pub open_short : (a : Result Asked Refusal) → length (open_of a) ≤ 428
+open_short (Ok a) = omega (arith, length-append (joined_line a.side a.whole) end_line, go a.whole)
   where
-    go : (t : Bool) → length (joined_line d t) ≤ 24
-    go true = side_short word_joined [] d
-    go false = side_short word_parted [] d
-open_short (asked.Refused k p) = omega (arith, bad_short k p)
+    go : (t : Bool) → length (joined_line a.side t) ≤ 24
+    go true = side_short word_joined [] a.side
+    go false = side_short word_parted [] a.side
+open_short (Err r) = omega (arith, bad_short (fault_number r.fault) r.place)
 
 pub search_short : (limit : ℕ) (g : Reading) → length (search_of limit g) ≤ 428
 search_short limit (good m) =
@@ -122,9 +103,9 @@ read_short (good m) =
     )
 read_short (refused k p) = omega (arith, bad_short k p)
 
-pub written_short : (w : Written) → length (write_of w) ≤ 428
-written_short (written.Length l) = omega (arith, length-append (written_line l) end_line, behind_short word_written (l ∷ []) (10 ∷ []))
-written_short (written.Refused k p) = omega (arith, bad_short k p)
+pub written_short : (w : Result ℕ Refusal) → length (write_of w) ≤ 428
+written_short (Ok l) = omega (arith, length-append (written_line l) end_line, behind_short word_written (l ∷ []) (10 ∷ []))
+written_short (Err r) = omega (arith, bad_short (fault_number r.fault) r.place)
 
 -- so the text that is handed back is all that there is to print
 module _ (s : List ℕ) (n : ℕ) (t : Text) where
@@ -141,5 +122,5 @@ module _ (t : Text) where
   pub read_whole : (s : List ℕ) → t ≡ text_of (read_of (reading s)) → take t.len t.bytes ≡ read_of (reading s)
   read_whole s e = text_whole _ (omega (arith, read_short (reading s))) e
 
-  pub written_whole : (w : Written) → t ≡ text_of (write_of w) → take t.len t.bytes ≡ write_of w
+  pub written_whole : (w : Result ℕ Refusal) → t ≡ text_of (write_of w) → take t.len t.bytes ≡ write_of w
   written_whole w e = text_whole _ (omega (arith, written_short w)) e

@@ -1,61 +1,30 @@
--- The report by the answers of the operations is the report on the book: choice 0 of a well-formed book is there to be judged, and the book's own bytes are
--- searched.
-use mathlib.Core.Path.{◌≡◌, sym, ap, ◌∙◌}
+-- How long the lines of a report are: it is short, so that it is kept whole.
+use mathlib.Core.Path.{◌≡◌}
 use mathlib.Core.Bool.{Bool, true, false, cond}
-use mathlib.Core.List.{List, [], ◌∷◌, ◌++◌, append_assoc}
+use mathlib.Core.List.{List, [], ◌∷◌, ◌++◌}
 use Prim.Native.Nat.{ℕ, zero, suc, ◌+◌, ◌*◌, ◌≤◌}
 use native.Mathlib.Omega.{arith}
 use lib.Dec.{eqb}
 use lib.ListN.{length, get_or, take, length-append}
-use borrow.Author.Tests.{lt-ltb}
-use Rattle.book.specs.Book.{RouteBook, well_formed}
+use Rattle.book.specs.Book.{RouteBook}
 use Rattle.book.specs.Format.{Reading, reading, good, refused}
-use Rattle.book.specs.Choice.{movable, sizes, digits, choices, chosen}
-use Rattle.book.specs.Writing.{chosen_of}
-use Rattle.book.specs.Memory.{shown}
-use Rattle.book.specs.declared.Reply.{Reply}
-use Rattle.book.specs.declared.Answer.TheVariants.{Refused}
-use Rattle.book.proofs.Choices.{choices_some}
-use Rattle.book.proofs.Written.{reply_refused}
+use Rattle.book.specs.Choice.{movable, sizes, digits, chosen}
 use Rattle.judgement.specs.Judgement.{verdict, score_f, score_fc}
-use Rattle.judgement.specs.Answers.{judged_of}
-use Rattle.judgement.specs.Sites.{site_of, closed_of}
+use Rattle.judgement.specs.Sites.{site_of}
 use Rattle.judgement.specs.declared.Verdict.{Verdict}
 use Rattle.judgement.specs.declared.Verdict.TheVariants.{Over, Split, Cut, Okay}
-use Rattle.judgement.specs.declared.Site.{Site}
-use Rattle.judgement.specs.declared.Site.TheVariants as site
+use Rattle.judgement.specs.declared.Down.{Down}
+use Rattle.std.specs.Prelude.{Option}
+use Rattle.std.specs.Prelude as option
 use Rattle.search.specs.Search.{finding}
-use Rattle.search.specs.Answers.{searched_of}
 use Rattle.search.specs.declared.Finding.{Finding}
 use Rattle.search.specs.declared.Finding.TheVariants.{Found, None, More}
 use Rattle.listing.specs.Text.{decimal, hex, text_of}
 use Rattle.listing.specs.Report.{word_book, word_over, word_split, word_cut, word_score, word_site, word_found, word_none, word_more, word_move, word_bad, numbers, line, side_line}
 use Rattle.listing.specs.Report.{book_line, verdict_line, score_line, site_line, finding_line, move_line, move_lines, moves_of, end_line, bad_line, bad_text, report_limit, report_of}
-use Rattle.listing.specs.Inside.{judged_lines, closed_line, searched_lines, good_lines}
 use Rattle.listing.specs.declared.text.Text.{Text}
 use Rattle.listing.proofs.Texts.{text_whole}
 use Rattle.listing.proofs.Spelling.{spelled_long, decimal_short}
-
--- a refusal's text is the text of a reading that is refused, whatever is printed of it
-module _ (f : Reading → List ℕ) (s : List ℕ) (r : Reply) {k p : ℕ} where
-  pub refused_text : r ≡ shown (reading s) → r.answer ≡ Refused k p → text_of (f (refused k p)) ≡ text_of (f (reading s))
-  refused_text e a = ap (λ (g : Reading). text_of (f g)) (sym (reply_refused s r k p e a))
-
-module _ (m : RouteBook) (fits : well_formed m ≡ true) where
-  first_choice : chosen_of (good m) 0 ≡ good (chosen m 0)
-  first_choice = rw (lt-ltb 0 (choices m) (choices_some m fits))
-
-  -- the lines by what reading and choosing give
-  abbrev by : Reading → Reading → List ℕ
-  by g c = book_line m ++ (judged_lines (judged_of c) ++ (closed_line (closed_of c) ++ (searched_lines m (searched_of g report_limit) ++ end_line)))
-
-  pub report_good : (s : List ℕ) → reading s ≡ good m → good_lines m s ≡ report_of (good m)
-  report_good s e =
-      let c = chosen m 0 in
-      let rest = site_line (site_of c) ++ (searched_lines m (searched_of (good m) report_limit) ++ end_line) in
-      ap (λ (g : Reading). by g (chosen_of g 0)) e
-      ∙ ap (by (good m)) first_choice
-      ∙ ap (λ (x : List ℕ). book_line m ++ x) (append_assoc (verdict_line (verdict c)) (score_line (score_f c) (score_fc c)) rest)
 
 -- THE REPORT IS SHORT: a number takes at most 20 digits, so that no line is longer than 89 bytes and the report never longer than 676
 module _ (w : List ℕ) where
@@ -75,9 +44,9 @@ verdict_short (Split d) = omega (arith, side_short word_split [] d)
 verdict_short (Cut x d) = omega (arith, side_short word_cut (x ∷ []) d)
 verdict_short Okay = omega arith
 
-pub site_short : (a : Site) → length (site_line a) ≤ 43
-site_short (site.Down v d) = omega (arith, side_short word_site (v ∷ []) d)
-site_short site.Okay = omega arith
+pub site_short : (a : Option Down) → length (site_line a) ≤ 43
+site_short (option.Some a) = omega (arith, side_short word_site (a.node ∷ []) a.side)
+site_short option.None = omega arith
 
 pub finding_short : (f : Finding) → length (finding_line f) ≤ 48
 finding_short (Found n t) = omega (arith, behind_short word_found (n ∷ t ∷ []) (10 ∷ []))

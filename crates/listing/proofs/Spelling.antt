@@ -1,10 +1,10 @@
--- Digits from the first to the last: the power of the base that each stands for is the one before it divided by the base, and what is written so far are
--- the digits of the number divided by the last power. The first power of a decimal number is the greatest that the number reaches.
-use Prim.Native.Nat.{ℕ, zero, suc, ◌+◌, ◌-◌, ◌*◌, ◌/◌, ◌%◌, ◌^◌, ◌≤◌, ◌<◌, zero-le}
+-- Digits from the first to the last: what is written so far are the digits of the number divided by a power of the base. A decimal number has one digit more
+-- than the greatest power of ten that it reaches has noughts.
+use Prim.Native.Nat.{ℕ, zero, suc, ◌+◌, ◌-◌, ◌*◌, ◌/◌, ◌%◌, ◌^◌, ◌≤◌, ◌<◌, max, zero-le}
 use mathlib.Core.Path.{◌≡◌, refl, sym, ap, ap₂, ◌∙◌, subst}
 use mathlib.Core.Bool.{Bool, true, false, cond}
 use mathlib.Core.List.{List, [], ◌∷◌, ◌++◌}
-use native.Mathlib.Nat.{pow-zero, pow-succ', pow-le-pow_right, mul_comm, div-one, div-eq_of_lt, mul-div_cancel_left, div-div-eq-div-mul, le-div_iff_mul-le, div-lt_iff_lt-mul, mod-lt, mul-div-le, div-add-mod}
+use native.Mathlib.Nat.{pow-zero, pow-succ', pow-le-pow_right, mul_comm, div-one, div-div-eq-div-mul, div-lt_iff_lt-mul, mod-lt, mul-div-le, div-add-mod}
 use native.Mathlib.Decide.{dec_lt}
 use native.Mathlib.Omega.{arith}
 use lib.Dec.{ltb}
@@ -17,122 +17,39 @@ use Rattle.listing.proofs.Texts.{adds_none, adds_then, adds_as}
 
 -- powers of a base
 module _ (base : ℕ) (two : 1 < base) where
-  power_pos : (i : ℕ) → 0 < base ^ i
+  pub power_pos : (i : ℕ) → 0 < base ^ i
   power_pos i = omega (arith, pow-zero base, pow-le-pow_right {n = base} (omega arith) {i = 0} {j = i} zero-le)
 
-  power_less : (i : ℕ) → base ^ suc i / base ≡ base ^ i
-  power_less i = ap (λ (x : ℕ). x / base) (pow-succ' base i) ∙ mul-div_cancel_left (base ^ i) (omega arith)
+  pub power_fits : (i k : ℕ) → i ≤ k → base ^ (k - 1) < 2 ^ 64 → base ^ (i - 1) < 2 ^ 64
+  power_fits i k l h = omega (arith, pow-le-pow_right {n = base} (omega arith) {i = i - 1} {j = k - 1} (omega arith))
 
--- so many digits are left, q is the power of the next, and those before it are written
-pub record Spelled (self : Text) (n base k : ℕ) (t : Text) (q : ℕ) : Type 0 where
-  pub left : ℕ
-  pub few : left ≤ k
-  pub power : q ≡ base ^ left / base
-  pub adds : Adds self (spelled base (k - left) (n / base ^ left)) t
+-- digit by digit: with i digits left, what is written are the digits of the number divided by that power of the base
+module _ (self : Text) (n base k : ℕ) where
+  abbrev pub Spelled : ℕ → Text → Type 0
+  Spelled i t = Adds self (spelled base (k - i) (n / base ^ i)) t
 
-module _ (self : Text) (n base k : ℕ) (two : 1 < base) where
-  pub spelled_start : {q : ℕ} → 0 < k → q ≡ base ^ (k - 1) → Spelled self n base k self q
+  pub spelled_start : Spelled k self
   unfolding spelled
-  spelled_start h p = record {
-    left = k;
-    few = omega arith;
-    power =
-        let e : k ≡ suc (k - 1) = omega arith in
-        p ∙ sym (ap (λ (i : ℕ). base ^ i / base) e ∙ power_less base two (k - 1));
-    adds = let z : 0 ≡ k - k = omega arith in adds_as (ap (λ (i : ℕ). spelled base i (n / base ^ k)) z) adds_none;
-  }
+  spelled_start = let z : 0 ≡ k - k = omega arith in adds_as (ap (λ (j : ℕ). spelled base j (n / base ^ k)) z) adds_none
 
-  module _ {t : Text} {q : ℕ} (now : Spelled self n base k t q) where
-    -- there is a next digit exactly if q is not nought
-    more : 0 < q → (i : ℕ) × (now.left ≡ suc i)
-    more h = go now.left refl
-      where
-        go : (j : ℕ) → now.left ≡ j → (i : ℕ) × (now.left ≡ suc i)
-        go zero e = absurd (omega (arith, now.power ∙ ap (λ (j : ℕ). base ^ j / base) e ∙ ap (λ (x : ℕ). x / base) (pow-zero base) ∙ div-eq_of_lt {n = 1} two))
-        go (suc i) e = (i, e)
-
-    pub spelled_next : 0 < q → {next : Text} → Adds t (glyph (n / q % base) ∷ []) next → Spelled self n base k next (q / base)
+  module _ {t : Text} (i : ℕ) (now : Spelled i t) where
+    pub spelled_next : 0 < i → i ≤ k → {next : Text} → Adds t (glyph (n / base ^ (i - 1) % base) ∷ []) next → Spelled (i - 1) next
     unfolding spelled
-    spelled_next h add =
-        let i = (more h).0 in
-        let e : now.left ≡ suc i = (more h).1 in
-        let p : q ≡ base ^ i = now.power ∙ ap (λ (j : ℕ). base ^ j / base) e ∙ power_less base two i in
-        record {
-          left = i;
-          few = omega (arith, now.few);
-          power = ap (λ (x : ℕ). x / base) p;
-          adds =
-              let z : k - i ≡ suc (k - suc i) = omega (arith, now.few) in
-              let d : n / base ^ i / base ≡ n / base ^ suc i = div-div-eq-div-mul n (base ^ i) base ∙ ap (λ (x : ℕ). n / x) (mul_comm (base ^ i) base ∙ sym (pow-succ' base i)) in
-              adds_as (
-              ap₂ (λ (j x : ℕ). spelled base (k - j) (n / base ^ j) ++ glyph (n / x % base) ∷ []) e p
-              ∙ ap (λ (x : ℕ). spelled base (k - suc i) x ++ glyph (n / base ^ i % base) ∷ []) (sym d)
-              ∙ sym (ap (λ (j : ℕ). spelled base j (n / base ^ i)) z)
-              ) (adds_then now.adds add);
-        }
+    spelled_next h few add =
+        let e : i ≡ suc (i - 1) = omega arith in
+        let z : k - (i - 1) ≡ suc (k - i) = omega arith in
+        let d : n / base ^ i ≡ n / base ^ (i - 1) / base =
+        ap (λ (j : ℕ). n / base ^ j) e ∙ ap (λ (x : ℕ). n / x) (pow-succ' base (i - 1) ∙ mul_comm base (base ^ (i - 1))) ∙ sym (div-div-eq-div-mul n (base ^ (i - 1)) base) in
+        adds_as (
+        ap (λ (x : ℕ). spelled base (k - i) x ++ glyph (n / base ^ (i - 1) % base) ∷ []) d
+        ∙ sym (ap (λ (j : ℕ). spelled base j (n / base ^ (i - 1))) z)
+        ) (adds_then now add)
 
-    pub spelled_done : q ≤ 0 → Adds self (spelled base k n) t
-    spelled_done h = adds_as (ap (λ (j : ℕ). spelled base (k - j) (n / base ^ j)) none ∙ ap₂ (spelled base) all (ap (λ (x : ℕ). n / x) (pow-zero base) ∙ div-one n)) now.adds
-      where
-        none : now.left ≡ 0
-        none = go now.left refl
-          where
-            go : (j : ℕ) → now.left ≡ j → now.left ≡ 0
-            go zero e = e
-            go (suc i) e = absurd (omega (arith, power_pos base two i, now.power ∙ ap (λ (j : ℕ). base ^ j / base) e ∙ power_less base two i))
-
-        all : k - 0 ≡ k
-        all = omega arith
-
--- the greatest power of ten: p is ten to the power i, and the number has i digits more than its quotient by p
-pub record Reached (n p : ℕ) : Type 0 where
-  pub power : ℕ
-  pub few : power ≤ 19
-  pub is : p ≡ 10 ^ power
-  pub wide : width n ≡ power + width_by (19 - power) (n / p)
-
-pub reached_start : (n : ℕ) → Reached n 1
-reached_start n = record { power = 0; few = zero-le; is = refl; wide = sym (ap (width_by 19) (div-one n)) ∙ omega arith }
-
-module _ {n p : ℕ} (now : Reached n p) where
-  pub reached_pos : 0 < p
-  reached_pos = omega (arith, now.is, power_pos 10 (omega arith) now.power)
-
-  module _ (h : 10 ≤ n / p) (low : n < 2 ^ 64) where
-    -- the next power is no greater than the number
-    pub reached_low : p * 10 ≤ n
-    reached_low = omega (arith, mul_comm p 10, (le-div_iff_mul-le reached_pos).0 h)
-
-    pub reached_next : Reached n (p * 10)
-    unfolding width_by
-    reached_next = go (19 - now.power) refl
-      where
-        is : p * 10 ≡ 10 ^ suc now.power
-        is = mul_comm p 10 ∙ ap (λ (x : ℕ). 10 * x) now.is ∙ sym (pow-succ' 10 now.power)
-
-        go : (d : ℕ) → 19 - now.power ≡ d → Reached n (p * 10)
-        go zero e = absurd (omega (arith, reached_low, now.is ∙ ap (λ (i : ℕ). 10 ^ i) (full e)))
-          where
-            full : 19 - now.power ≡ 0 → now.power ≡ 19
-            full z = omega (arith, now.few)
-        go (suc d) e = record {
-          power = suc now.power;
-          few = omega (arith, now.few);
-          is = is;
-          wide =
-              let z : 19 - suc now.power ≡ d = omega (arith, now.few) in
-              let s : width_by (suc d) (n / p) ≡ suc (width_by d (n / p / 10)) = rw (le-ltb (n / p) 10 h) in
-              now.wide ∙ ap (λ (i : ℕ). now.power + width_by i (n / p)) e ∙ ap (λ (x : ℕ). now.power + x) s
-              ∙ omega (arith, ap₂ width_by (sym z) (div-div-eq-div-mul n p 10));
-        }
-
-  pub reached_done : n / p < 10 → p ≡ 10 ^ (width n - 1)
-  unfolding width_by
-  reached_done h = now.is ∙ ap (λ (i : ℕ). 10 ^ i) (omega (arith, now.wide ∙ ap (λ (x : ℕ). now.power + x) (one (19 - now.power))))
-    where
-      one : (d : ℕ) → width_by d (n / p) ≡ 1
-      one zero = refl
-      one (suc d) = rw (lt-ltb (n / p) 10 h)
+    pub spelled_done : i ≤ 0 → Adds self (spelled base k n) t
+    spelled_done h =
+        let none : i ≡ 0 = omega arith in
+        let all : k - 0 ≡ k = omega arith in
+        adds_as (ap (λ (j : ℕ). spelled base (k - j) (n / base ^ j)) none ∙ ap₂ (spelled base) all (ap (λ (x : ℕ). n / x) (pow-zero base) ∙ div-one n)) now
 
 -- a number has a digit at least
 some : (d n : ℕ) → 0 < width_by d n
@@ -222,3 +139,20 @@ hex_worth d l = spelled_worth 16 16 d (omega arith) (omega arith) l
 
 pub decimal_fewest : (n : ℕ) → 10 ≤ n → 10 ^ (width n - 1) ≤ n
 decimal_fewest n h = width_fewest 19 n h
+
+-- and so many are one more than its logarithm
+pub width_is : (n i : ℕ) → n < 2 ^ 64 → 10 ^ i ≤ max n 1 → max n 1 < 10 * 10 ^ i → width n ≡ i + 1
+width_is n i low reached next = go (dec_lt n 10) (dec_lt i (width n)) (dec_lt (width n) (suc (suc i)))
+  where
+    up : {j k : ℕ} → j ≤ k → 10 ^ j ≤ 10 ^ k
+    up {j} {k} l = pow-le-pow_right {n = 10} (omega arith) {i = j} {j = k} l
+
+    go : Dec (n < 10) → Dec (i < width n) → Dec (width n < suc (suc i)) → width n ≡ i + 1
+    go (yes l) _ _ = width_one 19 n l ∙ none i reached
+      where
+        none : (i : ℕ) → 10 ^ i ≤ max n 1 → 1 ≡ i + 1
+        none zero h = refl
+        none (suc i) h = absurd (omega (arith, pow-succ' 10 i, power_pos 10 (omega arith) i))
+    go (no l) (yes a) (yes b) = omega arith
+    go (no l) (no a) _ = absurd (omega (arith, width_holds 19 n (omega arith), up {j = width n} {k = i} (omega arith)))
+    go (no l) (yes a) (no b) = absurd (omega (arith, decimal_fewest n (omega arith), up {j = suc i} {k = width n - 1} (omega arith), pow-succ' 10 i))

@@ -7,8 +7,8 @@ use mathlib.Core.List.{List, ◌++◌}
 use Rattle.book.specs.Book.{RouteBook}
 use Rattle.book.specs.Format.{good}
 use Rattle.book.specs.Memory as memory
-use Rattle.book.specs.declared.write.Written.TheVariants as written
-use Rattle.judgement.specs.declared.Asked.TheVariants as asked
+use Rattle.judgement.specs.Answers.{asked}
+use Rattle.std.specs.Prelude.{Ok}
 use Rattle.search.specs.Search.{finding}
 use Rattle.search.specs.declared.Finding.{Finding}
 use Rattle.search.specs.declared.Finding.TheVariants.{Found, None, More}
@@ -30,7 +30,7 @@ pub judge_serves : (n : ℕ) (c : RouteBook) → is_refusal (text_of (judge_of n
 unfolding text_of memory.padded
 judge_serves n c = refl
 
-pub open_serves : (d : ℕ) (all : Bool) → is_refusal (text_of (open_of (asked.Told d all))) ≡ false
+pub open_serves : (d : ℕ) (all : Bool) → is_refusal (text_of (open_of (Ok (asked d all)))) ≡ false
 unfolding text_of memory.padded
 open_serves d true = refl
 open_serves d false = refl
@@ -49,6 +49,6 @@ pub read_serves : (m : RouteBook) → is_refusal (text_of (read_of (good m))) �
 unfolding text_of memory.padded
 read_serves m = refl
 
-pub written_serves : (l : ℕ) → is_refusal (text_of (write_of (written.Length l))) ≡ false
+pub written_serves : (l : ℕ) → is_refusal (text_of (write_of (Ok l))) ≡ false
 unfolding text_of memory.padded
 written_serves l = refl

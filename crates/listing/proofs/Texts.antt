@@ -63,6 +63,10 @@ adds_then {x = x} {y = y} a b = record { shows = λ l e. b.shows (l ++ x) (a.sho
 pub adds_as : {t r : Text} {x y : List ℕ} → x ≡ y → Adds t x r → Adds t y r
 adds_as {t} {r} e a = subst (λ (z : List ℕ). Adds t z r) e a
 
+-- two lines that were added at once
+pub adds_two : {t r q : Text} (x y : List ℕ) {z : List ℕ} → Adds t (x ++ y) r → Adds r z q → Adds t (x ++ (y ++ z)) q
+adds_two x y {z} a b = adds_as (append_assoc x y z) (adds_then a b)
+
 -- text that fits is kept whole: the first bytes of the struct, as many as it says, are all of it
 pub text_whole : (l : List ℕ) → length l ≤ 1024 → {t : Text} → t ≡ text_of l → take t.len t.bytes ≡ l
 unfolding text_of padded

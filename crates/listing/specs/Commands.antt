@@ -1,32 +1,31 @@
 -- What the commands print: docs/COMMANDS.md.
-use Rattle.std.specs.Prelude.{ℕ, Bool, false, cond, List, [], ◌∷◌, ◌++◌, eqb, get_or}
+use Rattle.std.specs.Prelude.{ℕ, Bool, false, cond, List, [], ◌∷◌, ◌++◌, eqb, get_or, Result, Ok, Err, codes}
 use Rattle.book.specs.Format.{Reading, good, refused}
 use Rattle.book.specs.Choice.{choices}
-use Rattle.book.specs.declared.write.Written.{Written}
-use Rattle.book.specs.declared.write.Written.TheVariants as written
+use Rattle.book.specs.Memory.{fault_number}
+use Rattle.book.specs.declared.refusal.Refusal.{Refusal}
 use Rattle.judgement.specs.Judgement.{verdict, score_f, score_fc}
 use Rattle.judgement.specs.Sites.{site_of}
 use Rattle.judgement.specs.declared.Asked.{Asked}
-use Rattle.judgement.specs.declared.Asked.TheVariants as asked
 use Rattle.search.specs.Search.{finding}
 use Rattle.listing.specs.Report.{word_bad, line, side_line, end_line, bad_text, book_line, verdict_line, score_line, site_line, finding_line, moves_of}
 use Rattle.listing.specs.declared.text.Text.{Text}
 
 -- C3: the words, in ASCII
 abbrev pub word_choice : List ℕ
-word_choice = 67 ∷ 72 ∷ 79 ∷ 73 ∷ 67 ∷ 69 ∷ []
+word_choice = codes "CHOICE"
 
 abbrev pub word_choices : List ℕ
-word_choices = 67 ∷ 72 ∷ 79 ∷ 73 ∷ 67 ∷ 69 ∷ 83 ∷ []
+word_choices = codes "CHOICES"
 
 abbrev pub word_joined : List ℕ
-word_joined = 74 ∷ 79 ∷ 73 ∷ 78 ∷ 69 ∷ 68 ∷ []
+word_joined = codes "JOINED"
 
 abbrev pub word_parted : List ℕ
-word_parted = 80 ∷ 65 ∷ 82 ∷ 84 ∷ 69 ∷ 68 ∷ []
+word_parted = codes "PARTED"
 
 abbrev pub word_written : List ℕ
-word_written = 87 ∷ 82 ∷ 73 ∷ 84 ∷ 84 ∷ 69 ∷ 78 ∷ []
+word_written = codes "WRITTEN"
 
 -- C4: which choice of how many
 abbrev pub choice_line : ℕ → ℕ → List ℕ
@@ -42,9 +41,9 @@ abbrev pub joined_line : ℕ → Bool → List ℕ
 joined_line d all = cond all (side_line word_joined [] d) (side_line word_parted [] d)
 
 -- C5, C9: `open`, by the answer to the question about the span
-abbrev pub open_of : Asked → List ℕ
-open_of (asked.Told d all) = joined_line d all ++ end_line
-open_of (asked.Refused k p) = bad_text k p
+abbrev pub open_of : Result Asked Refusal → List ℕ
+open_of (Ok a) = joined_line a.side a.whole ++ end_line
+open_of (Err r) = bad_text (fault_number r.fault) r.place
 
 -- C6, C9: `search`
 abbrev pub search_of : ℕ → Reading → List ℕ
@@ -65,9 +64,9 @@ abbrev pub written_line : ℕ → List ℕ
 written_line l = line word_written (l ∷ [])
 
 -- C8, C9: `write`, by the writer's answer
-abbrev pub write_of : Written → List ℕ
-write_of (written.Length l) = written_line l ++ end_line
-write_of (written.Refused k p) = bad_text k p
+abbrev pub write_of : Result ℕ Refusal → List ℕ
+write_of (Ok l) = written_line l ++ end_line
+write_of (Err r) = bad_text (fault_number r.fault) r.place
 
 -- C10: whether an answer is a refusal, by its first two bytes: they are those of the word BAD, and of no other first word
 abbrev pub is_refusal : Text → Bool

@@ -1,5 +1,6 @@
 -- The report on a book, line by line: docs/REPORT.md.
-use Rattle.std.specs.Prelude.{ℕ, zero, suc, cond, List, [], ◌∷◌, ◌++◌, eqb, length, get_or}
+use Rattle.std.specs.Prelude.{ℕ, zero, suc, cond, List, [], ◌∷◌, ◌++◌, eqb, length, get_or, Option, codes}
+use Rattle.std.specs.Prelude as option
 use Rattle.book.specs.Book.{RouteBook}
 use Rattle.book.specs.Format.{Reading, good, refused}
 use Rattle.book.specs.Choice.{movable, sizes, digits, chosen}
@@ -7,8 +8,7 @@ use Rattle.judgement.specs.Judgement.{verdict, score_f, score_fc}
 use Rattle.judgement.specs.declared.Verdict.{Verdict}
 use Rattle.judgement.specs.declared.Verdict.TheVariants.{Over, Split, Cut, Okay}
 use Rattle.judgement.specs.Sites.{site_of}
-use Rattle.judgement.specs.declared.Site.{Site}
-use Rattle.judgement.specs.declared.Site.TheVariants as site
+use Rattle.judgement.specs.declared.Down.{Down}
 use Rattle.search.specs.Search.{finding}
 use Rattle.search.specs.declared.Finding.{Finding}
 use Rattle.search.specs.declared.Finding.TheVariants.{Found, None, More}
@@ -16,43 +16,43 @@ use Rattle.listing.specs.Text.{decimal, hex}
 
 -- R1: the words, in ASCII
 abbrev pub word_book : List ℕ
-word_book = 66 ∷ 79 ∷ 79 ∷ 75 ∷ []
+word_book = codes "BOOK"
 
 abbrev pub word_over : List ℕ
-word_over = 79 ∷ 86 ∷ 69 ∷ 82 ∷ []
+word_over = codes "OVER"
 
 abbrev pub word_split : List ℕ
-word_split = 83 ∷ 80 ∷ 76 ∷ 73 ∷ 84 ∷ []
+word_split = codes "SPLIT"
 
 abbrev pub word_cut : List ℕ
-word_cut = 67 ∷ 85 ∷ 84 ∷ []
+word_cut = codes "CUT"
 
 abbrev pub word_ok : List ℕ
-word_ok = 79 ∷ 75 ∷ []
+word_ok = codes "OK"
 
 abbrev pub word_score : List ℕ
-word_score = 83 ∷ 67 ∷ 79 ∷ 82 ∷ 69 ∷ []
+word_score = codes "SCORE"
 
 abbrev pub word_site : List ℕ
-word_site = 83 ∷ 73 ∷ 84 ∷ 69 ∷ []
+word_site = codes "SITE"
 
 abbrev pub word_found : List ℕ
-word_found = 70 ∷ 79 ∷ 85 ∷ 78 ∷ 68 ∷ []
+word_found = codes "FOUND"
 
 abbrev pub word_none : List ℕ
-word_none = 78 ∷ 79 ∷ 78 ∷ 69 ∷ []
+word_none = codes "NONE"
 
 abbrev pub word_more : List ℕ
-word_more = 77 ∷ 79 ∷ 82 ∷ 69 ∷ []
+word_more = codes "MORE"
 
 abbrev pub word_move : List ℕ
-word_move = 77 ∷ 79 ∷ 86 ∷ 69 ∷ []
+word_move = codes "MOVE"
 
 abbrev pub word_bad : List ℕ
-word_bad = 66 ∷ 65 ∷ 68 ∷ []
+word_bad = codes "BAD"
 
 abbrev pub word_end : List ℕ
-word_end = 69 ∷ 78 ∷ 68 ∷ []
+word_end = codes "END"
 
 -- R1: a line is a word, numbers with a blank before each, and the end of the line; or the same with a side behind the numbers
 abbrev pub numbers : List ℕ → List ℕ → List ℕ
@@ -81,9 +81,9 @@ abbrev pub score_line : ℕ → ℕ → List ℕ
 score_line f c = line word_score (f ∷ c ∷ [])
 
 -- R9: the node whose closing parts the others, or the words `SITE OK`
-abbrev pub site_line : Site → List ℕ
-site_line (site.Down v d) = side_line word_site (v ∷ []) d
-site_line site.Okay = line (word_site ++ 32 ∷ word_ok) []
+abbrev pub site_line : Option Down → List ℕ
+site_line (option.Some a) = side_line word_site (a.node ∷ []) a.side
+site_line option.None = line (word_site ++ 32 ∷ word_ok) []
 
 -- R6: what the search found
 abbrev pub finding_line : Finding → List ℕ

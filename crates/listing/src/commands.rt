@@ -1,109 +1,90 @@
 // What each command prints: a question about a book, answered in a few lines and END, or a refusal. docs/COMMANDS.md says what each is.
 ghost use Rattle.std.specs.Prelude.{◌≡◌};
-ghost use Rattle.book.specs.Book.{RouteBook};
 ghost use Rattle.book.specs.Format.{reading};
 ghost use Rattle.book.specs.Writing.{chosen_of};
 ghost use Rattle.judgement.specs.Answers.{asked_of};
 ghost use Rattle.listing.specs.Text.{text_of};
 ghost use Rattle.listing.specs.Commands.{judge_of, open_of, search_of, read_of, write_of, is_refusal};
-ghost use Rattle.listing.specs.Inside.{Holds, choice_lines};
+ghost use Rattle.listing.specs.Inside.{told};
 
 use crate::text::Text;
-use crate::{closed_line, judged_lines, lines, searched_lines};
+use book::choice;
 use book::choice::Movables;
-use book::write::Written;
-use book::{Answer, Book, choice};
-use judgement::Asked;
+use book::refusal::Refusal;
 
-// The lines about choice n of a book, whose bytes are s; b is the book that the choice makes.
-fn choice_lines(s: &[u8], n: u32, b: Book) -> Text
-    ensures { (c : RouteBook) → Holds b c → result ≡ text_of (choice_lines n c s.now) }
+// The lines about a choice of a book that has it.
+fn judged(s: &[u8], n: u32) -> Result<Text, Refusal>
+    ensures { result ≡ told (judge_of n) (chosen_of (reading s.now) n) }
 {
-    let w = Movables::of(b);
-    let total = w.total();
-    let none = Text::none();
-    let first = lines::choice_line(none, n, total);
-    let second = judged_lines(first, s, n);
-    let third = closed_line(second, s, n);
-    lines::end_line(third)
+    let b = choice::choose(s, n)?;
+    let judged = judgement::judge(s, n)?;
+    let down = judgement::close(s, n)?;
+    let total = Movables::of(b).total();
+    Ok(
+        Text::none()
+            .choice_line(n, total)
+            .judged_lines(judged)
+            .site_line(down)
+            .end_line(),
+    )
 }
 
 // The verdict on choice n, its score, and what closing a node does in it.
 pub fn judge(s: &[u8], n: u32) -> Text
     ensures { result ≡ text_of (judge_of n (chosen_of (reading s.now) n)) }
 {
-    let reply = choice::choose(s, n);
-    let answer = reply.answer;
-    let b = reply.book;
-    match answer {
-        Answer::Good => choice_lines(s, n, b),
-        Answer::Refused(no, place) => lines::bad_text(no, place),
-    }
+    judged(s, n).unwrap_or_else(Text::refused)
 }
 
 // Who is joined in choice n with span x out.
 pub fn open(s: &[u8], n: u32, x: u32) -> Text
     ensures { result ≡ text_of (open_of (asked_of (chosen_of (reading s.now) n) x)) }
 {
-    let answer = judgement::ask(s, n, x);
-    match answer {
-        Asked::Told(d, all) => {
-            let none = Text::none();
-            let first = lines::joined_line(none, d, all);
-            lines::end_line(first)
-        }
-        Asked::Refused(no, place) => lines::bad_text(no, place),
+    match judgement::ask(s, n, x) {
+        Ok(asked) => Text::none().joined_line(asked).end_line(),
+        Err(refusal) => Text::refused(refusal),
     }
+}
+
+// What a search of a book that can be read finds.
+fn searched(s: &[u8], limit: u32) -> Result<Text, Refusal>
+    ensures { result ≡ told (search_of limit) (reading s.now) }
+{
+    let b = book::read(s)?;
+    let finding = search::search(s, limit)?;
+    Ok(Text::none().finding_lines(b, finding).end_line())
 }
 
 // What a search with a trial limit finds.
 pub fn search(s: &[u8], limit: u32) -> Text
     ensures { result ≡ text_of (search_of limit (reading s.now)) }
 {
-    let reply = book::read(s);
-    let answer = reply.answer;
-    let b = reply.book;
-    match answer {
-        Answer::Good => {
-            let none = Text::none();
-            let first = searched_lines(none, s, b, limit);
-            lines::end_line(first)
-        }
-        Answer::Refused(no, place) => lines::bad_text(no, place),
-    }
+    searched(s, limit).unwrap_or_else(Text::refused)
+}
+
+// What a book that can be read has.
+fn counted(s: &[u8]) -> Result<Text, Refusal>
+    ensures { result ≡ told read_of (reading s.now) }
+{
+    let b = book::read(s)?;
+    let total = Movables::of(b).total();
+    Ok(Text::none().book_line(b).choices_line(total).end_line())
 }
 
 // What a book has, and how many choices.
 pub fn read(s: &[u8]) -> Text
     ensures { result ≡ text_of (read_of (reading s.now)) }
 {
-    let reply = book::read(s);
-    let answer = reply.answer;
-    let b = reply.book;
-    match answer {
-        Answer::Good => {
-            let w = Movables::of(b);
-            let total = w.total();
-            let none = Text::none();
-            let first = lines::book_line(none, b);
-            let second = lines::choices_line(first, total);
-            lines::end_line(second)
-        }
-        Answer::Refused(no, place) => lines::bad_text(no, place),
-    }
+    counted(s).unwrap_or_else(Text::refused)
 }
 
 // What the writer answered.
-pub fn written(w: Written) -> Text
+pub fn written(w: Result<usize, Refusal>) -> Text
     ensures { result ≡ text_of (write_of w) }
 {
     match w {
-        Written::Length(len) => {
-            let none = Text::none();
-            let first = lines::written_line(none, len);
-            lines::end_line(first)
-        }
-        Written::Refused(no, place) => lines::bad_text(no, place),
+        Ok(len) => Text::none().written_line(len).end_line(),
+        Err(refusal) => Text::refused(refusal),
     }
 }
 
@@ -111,6 +92,5 @@ pub fn written(w: Written) -> Text
 pub fn is_refusal(t: Text) -> bool
     ensures { result ≡ is_refusal t }
 {
-    let bytes = t.bytes;
-    bytes[0] == b'B' && bytes[1] == b'A'
+    t.bytes.starts_with(b"BA")
 }

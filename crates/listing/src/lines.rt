@@ -1,159 +1,180 @@
 // The lines of a report, each put behind the text so far.
-ghost use Rattle.std.specs.Prelude.{◌≡◌, true};
+ghost use Rattle.std.specs.Prelude.{◌≡◌, ◌++◌, true};
 ghost use Rattle.book.specs.Book.{RouteBook, well_formed};
-ghost use Rattle.book.specs.Memory.{book_of};
+ghost use Rattle.book.specs.Memory.{book_of, fault_number};
 ghost use Rattle.book.specs.Choice.{movable, sizes, digits};
 ghost use Rattle.listing.specs.Text.{text_of};
 ghost use Rattle.listing.specs.Inside.{Adds};
-ghost use Rattle.listing.specs.Report.{end_line, bad_line, bad_text, book_line, verdict_line, score_line, site_line, finding_line, move_line, move_lines};
+ghost use Rattle.listing.specs.Report.{end_line, bad_line, bad_text, book_line, verdict_line, score_line, site_line, finding_line, move_line, move_lines, moves_of};
 ghost use Rattle.listing.specs.Commands.{choice_line, joined_line, choices_line, written_line};
 
 use crate::text::Text;
 use book::Book;
 use book::choice::{Choice, Movables};
-use judgement::{Site, Verdict};
+use book::refusal::Refusal;
+use judgement::{Asked, Down, Judged, Verdict};
 use search::Finding;
 
-// What the book has: nodes, spans, lightpaths, alternatives.
-pub(crate) fn book_line(t: Text, b: Book) -> Text
-    ensures { (m : RouteBook) → b ≡ book_of m → Adds t (book_line m) result }
-{
-    let w = t.word(b"BOOK");
-    let x = w.number(b.nodes as u64).number(b.spans as u64);
-    x.number(b.lightpaths as u64)
-        .number(b.alternatives as u64)
-        .end()
-}
-
-// The verdict, with its numbers.
-pub(crate) fn verdict_line(t: Text, v: Verdict) -> Text
-    ensures { Adds t (verdict_line v) result }
-{
-    match v {
-        Verdict::Over(x, l, w) => t
-            .word(b"OVER")
-            .number(x as u64)
-            .number(l as u64)
-            .number(w as u64)
-            .end(),
-        Verdict::Split(d) => t.word(b"SPLIT").side(d).end(),
-        Verdict::Cut(x, d) => t.word(b"CUT").number(x as u64).side(d).end(),
-        Verdict::Okay => t.word(b"OK").end(),
+impl Text {
+    // What the book has: nodes, spans, lightpaths, alternatives.
+    pub(crate) fn book_line(self, b: Book) -> Text
+        ensures { (m : RouteBook) → b ≡ book_of m → Adds self (book_line m) result }
+    {
+        self.word(b"BOOK")
+            .number(b.nodes as u64)
+            .number(b.spans as u64)
+            .number(b.lightpaths as u64)
+            .number(b.alternatives as u64)
+            .end()
     }
-}
 
-// The two scores.
-pub(crate) fn score_line(t: Text, f: u16, c: u16) -> Text
-    ensures { Adds t (score_line f c) result }
-{
-    t.word(b"SCORE").number(f as u64).number(c as u64).end()
-}
-
-// The node whose closing parts the others, with the side then; or that there is none.
-pub(crate) fn site_line(t: Text, a: Site) -> Text
-    ensures { Adds t (site_line a) result }
-{
-    match a {
-        Site::Down(v, d) => t.word(b"SITE").number(v as u64).side(d).end(),
-        Site::Okay => t.word(b"SITE OK").end(),
+    // The verdict, with its numbers.
+    fn verdict_line(self, v: Verdict) -> Text
+        ensures { Adds self (verdict_line v) result }
+    {
+        match v {
+            Verdict::Over(x, l, w) => self
+                .word(b"OVER")
+                .number(x as u64)
+                .number(l as u64)
+                .number(w as u64)
+                .end(),
+            Verdict::Split(d) => self.word(b"SPLIT").side(d).end(),
+            Verdict::Cut(x, d) => self.word(b"CUT").number(x as u64).side(d).end(),
+            Verdict::Okay => self.word(b"OK").end(),
+        }
     }
-}
 
-// What the search found.
-pub(crate) fn finding_line(t: Text, f: Finding) -> Text
-    ensures { Adds t (finding_line f) result }
-{
-    match f {
-        Finding::Found(n, total) => t.word(b"FOUND").number(n as u64).number(total as u64).end(),
-        Finding::None(total) => t.word(b"NONE").number(total as u64).end(),
-        Finding::More(limit, total) => t
-            .word(b"MORE")
-            .number(limit as u64)
+    // The two scores.
+    fn score_line(self, f: u16, fc: u16) -> Text
+        ensures { Adds self (score_line f fc) result }
+    {
+        self.word(b"SCORE").number(f as u64).number(fc as u64).end()
+    }
+
+    // The verdict, and the scores.
+    pub(crate) fn judged_lines(self, j: Judged) -> Text
+        ensures { Adds self (verdict_line j.verdict ++ score_line j.f j.fc) result }
+    {
+        self.verdict_line(j.verdict).score_line(j.f, j.fc)
+    }
+
+    // The node whose closing parts the others, with the side then; or that there is none.
+    pub(crate) fn site_line(self, down: Option<Down>) -> Text
+        ensures { Adds self (site_line down) result }
+    {
+        match down {
+            Some(d) => self.word(b"SITE").number(d.node as u64).side(d.side).end(),
+            None => self.word(b"SITE OK").end(),
+        }
+    }
+
+    // What the search found.
+    fn finding_line(self, f: Finding) -> Text
+        ensures { Adds self (finding_line f) result }
+    {
+        match f {
+            Finding::Found(n, total) => self
+                .word(b"FOUND")
+                .number(n as u64)
+                .number(total as u64)
+                .end(),
+            Finding::None(total) => self.word(b"NONE").number(total as u64).end(),
+            Finding::More(limit, total) => self
+                .word(b"MORE")
+                .number(limit as u64)
+                .number(total as u64)
+                .end(),
+        }
+    }
+
+    // One lightpath that is moved, by its digit; no line where the digit is 0.
+    fn move_line(self, k: u8, d: u8) -> Text
+        ensures { Adds self (move_line k d) result }
+    {
+        if d == 0 {
+            return self;
+        }
+        self.word(b"MOVE").number(k as u64).number(d as u64).end()
+    }
+
+    // The lightpaths that choice n moves.
+    fn move_lines(self, b: Book, n: u32) -> Text
+        ensures { (m : RouteBook) → b ≡ book_of m → well_formed m ≡ true → Adds self (move_lines (movable m) (digits (sizes m) n) 8) result }
+    {
+        let w = Movables::of(b);
+        let c = Choice::of(n, w);
+        let mut t = self;
+        for (i, d) in c.digits.iter().enumerate() {
+            t = t.move_line(w.lightpath[i], *d);
+        }
+        t
+    }
+
+    // What was found in the book b, and the moves where that is a choice.
+    pub(crate) fn finding_lines(self, b: Book, f: Finding) -> Text
+        ensures { (m : RouteBook) → b ≡ book_of m → well_formed m ≡ true → Adds self (finding_line f ++ moves_of m f) result }
+    {
+        let t = self.finding_line(f);
+        match f {
+            Finding::Found(n, _) => t.move_lines(b, n),
+            _ => t,
+        }
+    }
+
+    // Which choice of how many.
+    pub(crate) fn choice_line(self, n: u32, total: u32) -> Text
+        ensures { Adds self (choice_line n total) result }
+    {
+        self.word(b"CHOICE")
+            .number(n as u64)
             .number(total as u64)
-            .end(),
+            .end()
     }
-}
 
-// One lightpath that is moved, by its digit; no line where the digit is 0.
-fn move_line(t: Text, k: u8, d: u8) -> Text
-    ensures { Adds t (move_line k d) result }
-{
-    if d == 0 {
-        return t;
+    // How many choices there are.
+    pub(crate) fn choices_line(self, total: u32) -> Text
+        ensures { Adds self (choices_line total) result }
+    {
+        self.word(b"CHOICES").number(total as u64).end()
     }
-    t.word(b"MOVE").number(k as u64).number(d as u64).end()
-}
 
-// The lightpaths that choice n moves.
-pub(crate) fn move_lines(t: Text, b: Book, n: u32) -> Text
-    ensures { (m : RouteBook) → b ≡ book_of m → well_formed m ≡ true → Adds t (move_lines (movable m) (digits (sizes m) n) 8) result }
-{
-    let w = Movables::of(b);
-    let c = Choice::of(n, w);
-    let lightpath = w.lightpath;
-    let digits = c.digits;
-    let mut r = t;
-    let mut i = 0;
-    while i < 8 {
-        r = move_line(r, lightpath[i], digits[i]);
-        i += 1;
+    // Who is joined, and whether these are all stations.
+    pub(crate) fn joined_line(self, a: Asked) -> Text
+        ensures { Adds self (joined_line a.side a.whole) result }
+    {
+        let word = if a.whole { b"JOINED" } else { b"PARTED" };
+        self.word(word).side(a.side).end()
     }
-    r
-}
 
-// Which choice of how many.
-pub(crate) fn choice_line(t: Text, n: u32, total: u32) -> Text
-    ensures { Adds t (choice_line n total) result }
-{
-    t.word(b"CHOICE")
-        .number(n as u64)
-        .number(total as u64)
-        .end()
-}
-
-// How many choices there are.
-pub(crate) fn choices_line(t: Text, total: u32) -> Text
-    ensures { Adds t (choices_line total) result }
-{
-    t.word(b"CHOICES").number(total as u64).end()
-}
-
-// Who is joined, and whether these are all stations.
-pub(crate) fn joined_line(t: Text, d: u64, all: bool) -> Text
-    ensures { Adds t (joined_line d all) result }
-{
-    if all {
-        return t.word(b"JOINED").side(d).end();
+    // How many bytes were written.
+    pub(crate) fn written_line(self, len: usize) -> Text
+        ensures { Adds self (written_line len) result }
+    {
+        self.word(b"WRITTEN").number(len as u64).end()
     }
-    t.word(b"PARTED").side(d).end()
-}
 
-// How many bytes were written.
-pub(crate) fn written_line(t: Text, len: usize) -> Text
-    ensures { Adds t (written_line len) result }
-{
-    t.word(b"WRITTEN").number(len as u64).end()
-}
+    // A refusal's number and place.
+    fn bad_line(self, refusal: Refusal) -> Text
+        ensures { Adds self (bad_line (fault_number refusal.fault) refusal.place) result }
+    {
+        self.word(b"BAD")
+            .number(refusal.fault.number() as u64)
+            .number(refusal.place as u64)
+            .end()
+    }
 
-// A refusal's number and place.
-pub(crate) fn bad_line(t: Text, no: u8, place: usize) -> Text
-    ensures { Adds t (bad_line no place) result }
-{
-    t.word(b"BAD").number(no as u64).number(place as u64).end()
-}
+    // The end of the listing.
+    pub(crate) fn end_line(self) -> Text
+        ensures { Adds self end_line result }
+    {
+        self.word(b"END").end()
+    }
 
-// The end of the listing.
-pub(crate) fn end_line(t: Text) -> Text
-    ensures { Adds t end_line result }
-{
-    t.word(b"END").end()
-}
-
-// The listing of a refusal.
-pub(crate) fn bad_text(no: u8, place: usize) -> Text
-    ensures { result ≡ text_of (bad_text no place) }
-{
-    let none = Text::none();
-    let first = bad_line(none, no, place);
-    end_line(first)
+    // The listing of a refusal.
+    pub(crate) fn refused(refusal: Refusal) -> Text
+        ensures { result ≡ text_of (bad_text (fault_number refusal.fault) refusal.place) }
+    {
+        Text::none().bad_line(refusal).end_line()
+    }
 }

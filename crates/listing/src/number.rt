@@ -1,62 +1,45 @@
 // Numbers as they are typed: decimal digits, read into 32 bits.
-ghost use Rattle.std.specs.Prelude.{◌≡◌};
-ghost use Rattle.listing.specs.Number.{parsed};
-ghost use Rattle.listing.specs.Inside.{fitted, with_value, with_byte};
+ghost use Rattle.std.specs.Prelude.{◌≡◌, true};
+ghost use Rattle.std.specs.Char.{is_ascii_digit};
+ghost use Rattle.listing.specs.Number.{all_digits, parsed};
+ghost use Rattle.listing.specs.Inside.{with_digit};
 
-// The number that a word is, or why it is none: it has no byte, a byte that is no digit, or digits worth 2 to the power 32 or more.
-#[derive(Clone, Copy)]
-pub enum Parsed {
-    Number(u32),
+// Why a word is no number: it has no byte, a byte that is no digit, or digits worth 2 to the power 32 or more.
+#[derive(Clone, Copy, Debug, PartialEq, Eq)]
+pub enum NotNumber {
     Empty,
     NotDigits,
     TooGreat,
 }
 
-// A number that may be too great for 32 bits.
-fn fitted(n: u64) -> Parsed
-    ensures { result ≡ fitted n }
+// Whether a word has digits only.
+fn all_digits(word: &[u8]) -> bool
+    ensures { result ≡ all_digits word.now }
 {
-    if n < 4294967296 {
-        Parsed::Number(n as u32)
-    } else {
-        Parsed::TooGreat
-    }
+    word.iter().all(|c| c.is_ascii_digit())
 }
 
-// What a word is with one digit more, which has the value d, by what it is without it.
-fn with_value(p: Parsed, d: u8) -> Parsed
-    ensures { result ≡ with_value p d }
+// What digits worth n are worth with the digit c behind them, where that fits 32 bits.
+fn with_digit(n: u32, c: u8) -> Option<u32>
+    requires { is_ascii_digit c ≡ true }
+    ensures { result ≡ with_digit n c }
 {
-    match p {
-        Parsed::Number(n) => fitted(10 * (n as u64) + d as u64),
-        Parsed::Empty => fitted(d as u64),
-        Parsed::NotDigits => Parsed::NotDigits,
-        Parsed::TooGreat => Parsed::TooGreat,
-    }
-}
-
-// What a word is with one byte more.
-fn with_byte(p: Parsed, c: u8) -> Parsed
-    ensures { result ≡ with_byte p c }
-{
-    if c < 48 {
-        return Parsed::NotDigits;
-    }
-    if c < 58 {
-        return with_value(p, c - 48);
-    }
-    Parsed::NotDigits
+    n.checked_mul(10)?.checked_add((c - b'0') as u32)
 }
 
 // The number that a word is, or why it is none.
-pub fn parse(word: &[u8]) -> Parsed
+pub fn parse(word: &[u8]) -> Result<u32, NotNumber>
     ensures { result ≡ parsed word.now }
 {
-    let mut p = Parsed::Empty;
-    let mut i = 0;
-    while i < word.len() {
-        p = with_byte(p, word[i]);
-        i += 1;
+    if word.is_empty() {
+        return Err(NotNumber::Empty);
     }
-    p
+    if !all_digits(word) {
+        return Err(NotNumber::NotDigits);
+    }
+    let mut n = 0;
+    for c in word {
+        n = with_digit(n, *c).ok_or(NotNumber::TooGreat)?;
+    }
+    Ok(n)
 }

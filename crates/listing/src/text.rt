@@ -1,9 +1,10 @@
 // Text in memory, byte by byte: words, decimal numbers, and sides as hex digits.
-ghost use Rattle.std.specs.Prelude.{◌≡◌, [], ◌∷◌, ℕ, ◌-◌, ◌^◌, ◌≤◌, ◌<◌};
-ghost use Rattle.listing.specs.Text.{glyph, spelled, width, decimal, hex, text_of};
+ghost use Rattle.std.specs.Prelude.{◌≡◌, [], ◌∷◌, ◌-◌, ◌^◌, ◌≤◌, ◌<◌, take};
+ghost use Rattle.listing.specs.Text.{glyph, spelled, decimal, hex, text_of};
 ghost use Rattle.listing.specs.Inside.{Adds};
 
-// Up to 1,024 bytes of text, and noughts beyond them. What comes after those is dropped.
+// Up to 1,024 bytes of text, and noughts beyond them. What comes after those is dropped. There is no heap, so the length stands beside the bytes; and no ghost
+// field bounds it, since `commands::is_refusal` promises its answer on every such struct.
 #[derive(Clone, Copy)]
 pub struct Text {
     pub len: u16,
@@ -11,24 +12,15 @@ pub struct Text {
 }
 
 // The digit with value d, in lower case where it is a letter.
-fn glyph(d: u64) -> u8
+fn glyph(d: u8) -> u8
     requires { d < 16 }
     ensures { result ≡ glyph d }
 {
-    if d < 10 { 48 + d as u8 } else { 87 + d as u8 }
+    if d < 10 { b'0' + d } else { b'a' + (d - 10) }
 }
 
-// The greatest power of ten that a number reaches, and 1 where it is below ten.
-fn top_power(n: u64) -> u64
-    ensures { result ≡ 10 ^ (width n - 1) }
-{
-    let mut p: u64 = 1;
-    while 10 <= n / p {
-        p = p * 10;
-    }
-    p
-}
-
+// By methods and not by `write!`: what the library says of the bytes holds where `write!` answers Ok, and nothing says that it does, even for a writer that
+// takes all; but each text is promised on every input.
 impl Text {
     // No text.
     pub(crate) fn none() -> Text
@@ -36,20 +28,25 @@ impl Text {
     {
         Text {
             len: 0,
-            bytes: [0u8; 1024],
+            bytes: [0; 1024],
         }
     }
 
+    // The bytes of the text.
+    pub fn as_bytes(&self) -> &[u8]
+        ensures { result.now ≡ take self.now.len self.now.bytes }
+    {
+        let len = (self.len as usize).min(self.bytes.len());
+        &self.bytes[..len]
+    }
+
     // With one byte more.
-    pub(crate) fn byte(self, c: u8) -> Text
+    pub(crate) fn byte(mut self, c: u8) -> Text
         ensures { Adds self (c ∷ []) result }
     {
         if self.len < 1024 {
-            let mut t = self;
-            let i = t.len as usize;
-            t.bytes[i] = c;
-            t.len = t.len + 1;
-            return t;
+            self.bytes[self.len as usize] = c;
+            self.len += 1;
         }
         self
     }
@@ -59,24 +56,20 @@ impl Text {
         ensures { Adds self w.now result }
     {
         let mut t = self;
-        let mut j = 0;
-        while j < w.len() {
-            t = t.byte(w[j]);
-            j += 1;
+        for c in w {
+            t = t.byte(*c);
         }
         t
     }
 
-    // With the last digits of a number in a base, where p is the power of the base that the first of them stands for.
-    fn digits(self, n: u64, base: u64, p: u64) -> Text
-        requires { (1 < base) × (base ≤ 16) }
-        ensures { (k : ℕ) → 0 < k → p ≡ base ^ (k - 1) → Adds self (spelled base k n) result }
+    // With the last k digits of a number in a base more.
+    fn digits(self, n: u64, base: u64, k: u32) -> Text
+        requires { (1 < base) × (base ≤ 16) × (base ^ (k - 1) < 2 ^ 64) }
+        ensures { Adds self (spelled base k n) result }
     {
         let mut t = self;
-        let mut q = p;
-        while 0 < q {
-            t = t.byte(glyph(n / q % base));
-            q = q / base;
+        for i in (0..k).rev() {
+            t = t.byte(glyph((n / base.pow(i) % base) as u8));
         }
         t
     }
@@ -85,17 +78,15 @@ impl Text {
     pub(crate) fn number(self, n: u64) -> Text
         ensures { Adds self (32 ∷ decimal n) result }
     {
-        let p = top_power(n);
-        let t = self.byte(b' ');
-        t.digits(n, 10, p)
+        let k = n.max(1).ilog10() + 1;
+        self.byte(b' ').digits(n, 10, k)
     }
 
     // With a blank and a side more, as 16 hex digits.
     pub(crate) fn side(self, d: u64) -> Text
         ensures { Adds self (32 ∷ hex d) result }
     {
-        let t = self.byte(b' ');
-        t.digits(d, 16, 0x1000000000000000)
+        self.byte(b' ').digits(d, 16, 16)
     }
 
     // With the end of a line more.

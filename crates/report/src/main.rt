@@ -1,25 +1,22 @@
 // The report program: reads the book that its argument names, or else standard input, keeps 4,096 bytes of it, and prints the report on it.
 #![tactic(auto)]
 
+ghost use Rattle.std.specs.Prelude.{IfOk};
 ghost use Rattle.io.specs.Counts.{IsPrefixLen};
 
-use console::Moved;
 use std::env::FillError;
+use std::io::Error;
 use std::rt::Env;
 
-// Whether the program was given an argument.
+// Whether the program was given an argument, of whatever length.
 fn is_named(rt: &HostRuntime) -> bool {
     let mut space = [0u8; 1];
-    match rt.arg(1, &mut space) {
-        Ok(_) => true,
-        Err(FillError::TooLong) => true,
-        Err(FillError::NotPresent) => false,
-    }
+    !matches!(rt.arg(1, &mut space), Err(FillError::NotPresent))
 }
 
 // Reads the book.
-fn take(rt: &HostRuntime, space: &mut [u8]) -> Moved
-    ensures { IsPrefixLen result.len space.new }
+fn take(rt: &HostRuntime, space: &mut [u8]) -> Result<usize, Error>
+    ensures { IfOk result (λ n. IsPrefixLen n space.new) }
 {
     if is_named(rt) {
         console::read_file(rt, 1, b"BOOK", space)
@@ -30,10 +27,8 @@ fn take(rt: &HostRuntime, space: &mut [u8]) -> Moved
 
 fn main(rt: HostRuntime) {
     let mut space = [0u8; 4096];
-    let m = take(&rt, &mut space);
-    let len = m.len;
-    if m.failed.is_none() {
-        let t = listing::report(&space[..len]);
+    if let Ok(n) = take(&rt, &mut space) {
+        let t = listing::report(&space[..n]);
         console::answer(&rt, t);
     }
 }

@@ -15,8 +15,8 @@ use Rattle.judgement.specs.Judgement.{acceptable}
 use Rattle.judgement.proofs.Changes.{Raised, raised, raised_chosen}
 use Rattle.search.specs.declared.Finding.{Finding}
 use Rattle.search.specs.declared.Finding.TheVariants.{Found, None, More}
-use Rattle.search.specs.declared.Searched.{Searched}
-use Rattle.search.specs.declared.Searched.TheVariants.{Told}
+use Rattle.std.specs.Prelude.{Result, Ok}
+use Rattle.book.specs.declared.refusal.Refusal.{Refusal}
 use Rattle.search.specs.Search.{acceptable_at, finding}
 use Rattle.search.specs.Meaning.{NoneBelow, Given, found, none, more}
 use Rattle.search.specs.Answers.{searched_of}
@@ -25,16 +25,16 @@ use Rattle.search.proofs.Told.{tells}
 
 -- a greater limit, from the contract of `search`: r is its answer with the one, q with the other
 module _ (s : List ℕ) (limit limit' : ℕ) (more-trials : limit ≤ limit')
-    (r q : Searched) (met : r ≡ searched_of (reading s) limit) (met' : q ≡ searched_of (reading s) limit') where
-  same : {f : Finding} → ((m : RouteBook) → finding m limit ≡ f → finding m limit' ≡ f) → r ≡ Told f → q ≡ r
+    (r q : Result Finding Refusal) (met : r ≡ searched_of (reading s) limit) (met' : q ≡ searched_of (reading s) limit') where
+  same : {f : Finding} → ((m : RouteBook) → finding m limit ≡ f → finding m limit' ≡ f) → r ≡ Ok f → q ≡ r
   same kept e =
       let x = tells s limit r met e in
-      met' ∙ ap (λ (g : Reading). searched_of g limit') x.reads ∙ ap Told (kept x.book x.is) ∙ sym e
+      met' ∙ ap (λ (g : Reading). searched_of g limit') x.reads ∙ ap Ok (kept x.book x.is) ∙ sym e
 
-  pub greater_found : {n t : ℕ} → r ≡ Told (Found n t) → q ≡ r
+  pub greater_found : {n t : ℕ} → r ≡ Ok (Found n t) → q ≡ r
   greater_found {n} {t} = same (λ m e. let p = (found_exact m limit n t).0 e in (found_exact m limit' n t).1 (omega (arith, p.0), p.1, p.2, p.3, p.4))
 
-  pub greater_none : {t : ℕ} → r ≡ Told (None t) → q ≡ r
+  pub greater_none : {t : ℕ} → r ≡ Ok (None t) → q ≡ r
   greater_none {t} = same (λ m e. let p = (none_exact m limit t).0 e in (none_exact m limit' t).1 (omega (arith, p.0), p.1, p.2))
 
 -- limits raised
@@ -90,9 +90,9 @@ module _ (m m' : RouteBook) (r : Raised m m') (same-alternatives : m.alternative
 -- the same from the contract of `search`: r is its answer for the bytes of the one book, q for those of the other
 pub raised_found : (s s' : List ℕ) (limit n t : ℕ) (m m' : RouteBook) → reading s ≡ good m → reading s' ≡ good m'
     → Raised m m' → m.alternatives ≡ m'.alternatives
-    → (r q : Searched) → r ≡ searched_of (reading s) limit → q ≡ searched_of (reading s') limit
-    → r ≡ Told (Found n t) → (n' : ℕ) × (n' ≤ n) × (q ≡ Told (Found n' t))
+    → (r q : Result Finding Refusal) → r ≡ searched_of (reading s) limit → q ≡ searched_of (reading s') limit
+    → r ≡ Ok (Found n t) → (n' : ℕ) × (n' ≤ n) × (q ≡ Ok (Found n' t))
 raised_found s s' limit n t m m' reads reads' raise same r q met met' e =
-    let is : Told (finding m limit) ≡ Told (Found n t) = ap (λ (g : Reading). searched_of g limit) (sym reads) ∙ sym met ∙ e in
+    let is : Ok (finding m limit) ≡ Ok (Found n t) = ap (λ (g : Reading). searched_of g limit) (sym reads) ∙ sym met ∙ e in
     let x = raised_finding m m' raise same limit n t cc in
-    (x.0, x.1, met' ∙ ap (λ (g : Reading). searched_of g limit) reads' ∙ ap Told x.2)
+    (x.0, x.1, met' ∙ ap (λ (g : Reading). searched_of g limit) reads' ∙ ap Ok x.2)

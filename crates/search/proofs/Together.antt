@@ -7,11 +7,11 @@ use mathlib.Core.Bool.{true}
 use native.Mathlib.Decide.{ℕ_discrete}
 use native.Mathlib.Omega.{arith}
 use lib.ListN.{length, take}
-use Rattle.book.specs.declared.write.Written.{Written}
+use Rattle.book.specs.Memory.{number_of}
 use Rattle.book.specs.Book.{RouteBook, well_formed}
 use Rattle.book.specs.Format.{Reading, good, refused, reading}
 use Rattle.book.specs.Choice.{sizes, product, choices, digits, chosen}
-use Rattle.book.specs.Writing.{chosen_of, writing, written_of, written_number, written_length, buffer}
+use Rattle.book.specs.Writing.{chosen_of, writing, written_of, written_length, buffer}
 use Rattle.book.proofs.Readers.{Bytes}
 use Rattle.book.proofs.Format.{reading_only}
 use Rattle.book.proofs.Choices.{choices_some}
@@ -20,21 +20,21 @@ use Rattle.book.proofs.Written.{such_a_choice}
 use Rattle.book.proofs.ReadBack.{Denied, at_fault, no_choice, no_room, number_served, number_denied, room_enough}
 use Rattle.judgement.specs.declared.Verdict.TheVariants.{Okay}
 use Rattle.judgement.specs.declared.Judged.{Judged}
-use Rattle.judgement.specs.declared.Judged.TheVariants as judged
 use Rattle.judgement.specs.Judgement.{verdict, acceptable}
 use Rattle.judgement.proofs.Verdicts.{okay_only}
 use Rattle.judgement.proofs.Demand.{okay_noughts}
-use Rattle.judgement.specs.Answers.{judged_of}
+use Rattle.judgement.specs.Answers.{judged, judged_of}
+use Rattle.search.specs.declared.Finding.{Finding}
 use Rattle.search.specs.declared.Finding.TheVariants.{Found}
-use Rattle.search.specs.declared.Searched.{Searched}
-use Rattle.search.specs.declared.Searched.TheVariants.{Told}
+use Rattle.std.specs.Prelude.{Result, Ok}
+use Rattle.book.specs.declared.refusal.Refusal.{Refusal}
 use Rattle.search.specs.Answers.{searched_of}
 use Rattle.search.proofs.Findings.{found_exact}
 use Rattle.search.proofs.Told.{Tells, tells}
 
 -- r is the answer of `search` for the bytes s; w is that of `write` for choice n of them, and x the buffer `out` afterwards
-module _ (s : List ℕ) (h : Bytes s) (limit n t : ℕ) (r : Searched) (searched : r ≡ searched_of (reading s) limit) (is_found : r ≡ Told (Found n t))
-    (out : List ℕ) (w : Written) (x : List ℕ) (wrote : (w ≡ written_of (writing s n (length out))) × (x ≡ buffer (writing s n (length out)) out)) where
+module _ (s : List ℕ) (h : Bytes s) (limit n t : ℕ) (r : Result Finding Refusal) (searched : r ≡ searched_of (reading s) limit) (is_found : r ≡ Ok (Found n t))
+    (out : List ℕ) (w : Result ℕ Refusal) (x : List ℕ) (wrote : (w ≡ written_of (writing s n (length out))) × (x ≡ buffer (writing s n (length out)) out)) where
   it : Tells s limit (Found n t)
   it = tells s limit r searched is_found
 
@@ -57,17 +57,17 @@ module _ (s : List ℕ) (h : Bytes s) (limit n t : ℕ) (r : Searched) (searched
   only_room (no_room m e l f) = (refl, omega (arith, f, room_enough m n (reading_only s m h e).1))
 
   -- 3,976 bytes are never too few
-  pub long_enough : 3976 ≤ length out → written_number w ≡ 11 → ⊥
+  pub long_enough : 3976 ≤ length out → number_of w ≡ 11 → ⊥
   long_enough l e = omega (arith, l, (only_room (number_denied s n out w x h wrote (λ z. omega (arith, z, e))).0).1)
 
-  served : (written_number w ≡ 11 → ⊥) → written_number w ≡ 0
-  served ne = elim (ℕ_discrete (written_number w) 0) [ yes z ↦ z | no z ↦ absurd (ne (only_room (number_denied s n out w x h wrote z).0).0) ]
+  served : (number_of w ≡ 11 → ⊥) → number_of w ≡ 0
+  served ne = elim (ℕ_discrete (number_of w) 0) [ yes z ↦ z | no z ↦ absurd (ne (only_room (number_denied s n out w x h wrote z).0).0) ]
 
   -- the bytes that were written
   abbrev bytes : List ℕ
   bytes = take (written_length w) x
 
-  reads_back : written_number w ≡ 0 → reading bytes ≡ good (chosen it.book n)
+  reads_back : number_of w ≡ 0 → reading bytes ≡ good (chosen it.book n)
   reads_back z =
       let b = number_served s n out w x h wrote z in
       let q : good b.book ≡ good it.book = sym b.reads ∙ it.reads in
@@ -75,7 +75,7 @@ module _ (s : List ℕ) (h : Bytes s) (limit n t : ℕ) (r : Searched) (searched
       b.back ∙ ap (λ (m : RouteBook). good (chosen m n)) same
 
   -- THE SENTENCE: unless the buffer is too short, the writing is served, and v, the answer of `judge` for choice 0 of the bytes written, is OK
-  pub found_written : (written_number w ≡ 11 → ⊥) → (v : Judged) → v ≡ judged_of (chosen_of (reading bytes) 0) → (written_number w ≡ 0) × (v ≡ judged.Told Okay 0 0)
+  pub found_written : (number_of w ≡ 11 → ⊥) → (v : Result Judged Refusal) → v ≡ judged_of (chosen_of (reading bytes) 0) → (number_of w ≡ 0) × (v ≡ Ok (judged Okay 0 0))
   found_written ne v told =
       let m = it.book in
       let c = chosen m n in
@@ -84,11 +84,11 @@ module _ (s : List ℕ) (h : Bytes s) (limit n t : ℕ) (r : Searched) (searched
       (z, told ∙ ap (λ (g : Reading). judged_of (chosen_of g 0)) (reads_back z) ∙ ap judged_of first ∙ okay_noughts c (choice_fits m n fits) (okay_only (verdict c) accepted))
 
   -- and with any limit but 0, the search of those bytes finds choice 0
-  pub found_again : (written_number w ≡ 11 → ⊥) → (limit' : ℕ) → 0 < limit' → (q : Searched) → q ≡ searched_of (reading bytes) limit' → q ≡ Told (Found 0 t)
+  pub found_again : (number_of w ≡ 11 → ⊥) → (limit' : ℕ) → 0 < limit' → (q : Result Finding Refusal) → q ≡ searched_of (reading bytes) limit' → q ≡ Ok (Found 0 t)
   found_again ne limit' l q told =
       let m = it.book in
       let c = chosen m n in
       let total : t ≡ choices c = ((found_exact m limit n t).0 it.is).4 ∙ sym (ap product (chosen_sizes m (digits (sizes m) n))) in
       let stands : acceptable (chosen c 0) ≡ true = ap acceptable (chosen_none c) ∙ accepted in
       told ∙ ap (λ (g : Reading). searched_of g limit') (reads_back (served ne))
-      ∙ ap Told ((found_exact c limit' 0 t).1 (l, choices_some c (choice_fits m n fits), stands, (λ k u. absurd (omega arith)), total))
+      ∙ ap Ok ((found_exact c limit' 0 t).1 (l, choices_some c (choice_fits m n fits), stands, (λ k u. absurd (omega arith)), total))

@@ -3,15 +3,16 @@
 
 mod trial;
 
-ghost use Rattle.std.specs.Prelude.{◌≡◌, true, min};
+ghost use Rattle.std.specs.Prelude.{◌≡◌, true};
 ghost use Rattle.book.specs.Book.{RouteBook, well_formed};
 ghost use Rattle.book.specs.Format.{reading};
 ghost use Rattle.book.specs.Memory.{book_of};
 ghost use Rattle.search.specs.Search.{finding};
 ghost use Rattle.search.specs.Answers.{searched_of};
 
+use book::Book;
 use book::choice::{Choice, Movables};
-use book::{Answer, Book};
+use book::refusal::Refusal;
 
 // The least acceptable choice, with the number of choices; that there is none, with the number of choices; or that the limit ran out before either was
 // known, with the limit and the number of choices.
@@ -22,35 +23,19 @@ pub enum Finding {
     More(u32, u32),
 }
 
-// The answer of `search`: what was found, or a refusal's number and place.
-#[derive(Clone, Copy)]
-pub enum Searched {
-    Told(Finding),
-    Refused(u8, usize),
-}
-
-// The lesser of two numbers.
-fn lesser(x: u32, y: u32) -> u32
-    ensures { result ≡ min x y }
-{
-    if x < y { x } else { y }
-}
-
 // Tries the choices of the good book b in the order of their numbers, as far as the limit and their number allow, up to the first that is acceptable.
 fn find(b: Book, limit: u32) -> Finding
     ensures { (m : RouteBook) → b ≡ book_of m → well_formed m ≡ true → result ≡ finding m limit }
 {
     let w = Movables::of(b);
     let total = w.total();
-    let end = lesser(limit, total);
+    let end = limit.min(total);
     let mut c = Choice::of(0, w);
-    let mut n = 0;
-    while n < end {
+    for n in 0..end {
         if trial::acceptable(b, w, c) {
             return Finding::Found(n, total);
         }
         c = c.next(w);
-        n += 1;
     }
     if total <= limit {
         Finding::None(total)
@@ -59,18 +44,10 @@ fn find(b: Book, limit: u32) -> Finding
     }
 }
 
-// Searches the choices of a book, as many as the limit says.
-pub fn search(s: &[u8], limit: u32) -> Searched
+// Searches the choices of a book, as many as the limit says; a book that cannot be read is refused.
+pub fn search(s: &[u8], limit: u32) -> Result<Finding, Refusal>
     ensures { result ≡ searched_of (reading s.now) limit }
 {
-    let reply = book::read(s);
-    let answer = reply.answer;
-    let b = reply.book;
-    match answer {
-        Answer::Good => {
-            let f = find(b, limit);
-            Searched::Told(f)
-        }
-        Answer::Refused(no, place) => Searched::Refused(no, place),
-    }
+    let b = book::read(s)?;
+    Ok(find(b, limit))
 }

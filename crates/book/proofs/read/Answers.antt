@@ -1,47 +1,96 @@
--- A refusal of HD is one of the book; else the rest is read from its counts, and the step that comes back is the reply.
+-- What is left of the book after each kind of record is what is left of the whole, so each refusal is the whole's, and the last book is its answer.
 use native.Mathlib.Omega.{arith}
-use mathlib.Core.Path.{subst, ◌∙◌}
-use Rattle.book.specs.declared.Step.{Step}
-use Rattle.book.specs.Inside.{HoldsBook, Told}
-use Rattle.book.proofs.Stages.{told_on, all_bytes}
-use Rattle.book.proofs.Replies.{head_stop, head_few, rest, reply_good, reply_bad}
+use Rattle.std.proofs.lemmas.Result.{err_from_is_err_and}
+use Rattle.book.proofs.Stages.{all_bytes, spans_held, lightpaths_held}
+use Rattle.book.proofs.Replies.{head_stop, nodes_stop, nodes_none, nodes_on, spans_stop, spans_on, lightpaths_stop, lightpaths_on, alternatives_stop, all_within, end_stop, whole}
 use Rattle.book.proofs.read.Goals as goal
 
-pub returns-then-no-ne0 : goal.returns-then-no-ne0
-returns-then-no-ne0 c = c.refused.ensures ∙ head_stop c.args.s.now c.hd_no-no.ensures c.if-no-ne0.true
+pub returns-in_err-counts : goal.returns-in_err-counts
+returns-in_err-counts c =
+    let p = err_from_is_err_and c.from_residual.result c.from_residual.ensures.1 in
+    rw (p.1, p.2) (head_stop c.args.s.now c.in_err-counts.ensures)
 
-pub bounds-s-2 : goal.bounds-s-2
-bounds-s-2 c = omega (arith, c.hd_no-no.ensures.whole c.if-no-ne0.false)
-
-pub bounds-s-3 : goal.bounds-s-3
-bounds-s-3 c = omega (arith, c.hd_no-no.ensures.whole c.if-no-ne0.false)
-
-pub bounds-s-4 : goal.bounds-s-4
-bounds-s-4 c = omega (arith, c.hd_no-no.ensures.whole c.if-no-ne0.false)
-
-pub bounds-s-5 : goal.bounds-s-5
-bounds-s-5 c = omega (arith, c.hd_no-no.ensures.whole c.if-no-ne0.false)
-
-pub from_nodes-f-requires : goal.from_nodes-f-requires
-from_nodes-f-requires c =
+pub returns-in_err-nodes : goal.returns-in_err-nodes
+returns-in_err-nodes c =
     let s = c.args.s.now in
-    let n = c.hd_no-no.ensures in
-    let z = c.if-no-ne0.false in
-    let f = head_few s n z in
-    (omega (arith, n.whole z), all_bytes s (λ i. omega (arith, c.shared_slice_known-5-1.given i)), f.nodes, f.spans, f.lightpaths, f.alternatives)
+    let b = all_bytes s (λ i. omega (arith, c.type_inv.s i)) in
+    let p = err_from_is_err_and c.from_residual-in_err-nodes.result c.from_residual-in_err-nodes.ensures.1 in
+    rw (p.1, p.2) (nodes_stop s b c.in_ok-counts.counts c.in_ok-counts.ensures c.in_err-nodes.ensures)
 
-pub returns-in-Next : goal.returns-in-Next
-returns-in-Next c =
+pub returns-then-nodes-eq0 : goal.returns-then-nodes-eq0
+returns-then-nodes-eq0 c =
     let s = c.args.s.now in
-    let n = c.hd_no-no.ensures in
-    let z = c.if-no-ne0.false in
-    let f = c.from_nodes-f.result in
-    reply_good s n z (told_on s (rest s n z) HoldsBook f.step f.book c.in-Next.is c.from_nodes-f.ensures)
+    let b = all_bytes s (λ i. omega (arith, c.type_inv.s i)) in
+    rw c.at.ensures (nodes_none s b c.in_ok-counts.counts c.in_ok-counts.ensures c.in_ok-nodes.ensures c.if-nodes-eq0.true)
 
-pub returns-in-Bad : goal.returns-in-Bad
-returns-in-Bad c =
+pub returns-in_err-spans : goal.returns-in_err-spans
+returns-in_err-spans c =
     let s = c.args.s.now in
-    let n = c.hd_no-no.ensures in
-    let z = c.if-no-ne0.false in
-    let f = c.from_nodes-f.result in
-    c.refused-in-Bad.ensures ∙ reply_bad s n z (subst (λ (x : Step). Told s (rest s n z) HoldsBook x f.book) c.in-Bad.is c.from_nodes-f.ensures)
+    let b = all_bytes s (λ i. omega (arith, c.type_inv.s i)) in
+    let n = nodes_on s b c.in_ok-counts.counts c.in_ok-counts.ensures c.in_ok-nodes.ensures c.if-nodes-eq0.false in
+    let p = err_from_is_err_and c.from_residual-in_err-spans.result c.from_residual-in_err-spans.ensures.1 in
+    rw (p.1, p.2) (spans_stop s b _ n c.in_err-spans.ensures)
+
+pub with_lightpaths-requires : goal.with_lightpaths-requires
+with_lightpaths-requires c =
+    let s = c.args.s.now in
+    let b = all_bytes s (λ i. omega (arith, c.type_inv.s i)) in
+    let n = nodes_on s b c.in_ok-counts.counts c.in_ok-counts.ensures c.in_ok-nodes.ensures c.if-nodes-eq0.false in
+    let x = spans_on s b _ n c.in_ok-spans.ensures in
+    (x.within, c.in_ok-counts.counts.few.2, spans_held x.read)
+
+pub returns-in_err-lightpaths : goal.returns-in_err-lightpaths
+returns-in_err-lightpaths c =
+    let s = c.args.s.now in
+    let b = all_bytes s (λ i. omega (arith, c.type_inv.s i)) in
+    let n = nodes_on s b c.in_ok-counts.counts c.in_ok-counts.ensures c.in_ok-nodes.ensures c.if-nodes-eq0.false in
+    let x = spans_on s b _ n c.in_ok-spans.ensures in
+    let p = err_from_is_err_and c.from_residual-in_err-lightpaths.result c.from_residual-in_err-lightpaths.ensures.1 in
+    rw (p.1, p.2) (lightpaths_stop s b _ x c.in_err-lightpaths.ensures)
+
+pub with_alternatives-requires : goal.with_alternatives-requires
+with_alternatives-requires c =
+    let s = c.args.s.now in
+    let b = all_bytes s (λ i. omega (arith, c.type_inv.s i)) in
+    let n = nodes_on s b c.in_ok-counts.counts c.in_ok-counts.ensures c.in_ok-nodes.ensures c.if-nodes-eq0.false in
+    let x = spans_on s b _ n c.in_ok-spans.ensures in
+    let l = lightpaths_on s b _ x c.in_ok-lightpaths.ensures in
+    (l.within, c.in_ok-counts.counts.few.3, lightpaths_held l.read)
+
+pub returns-in_err-all : goal.returns-in_err-all
+returns-in_err-all c =
+    let s = c.args.s.now in
+    let b = all_bytes s (λ i. omega (arith, c.type_inv.s i)) in
+    let n = nodes_on s b c.in_ok-counts.counts c.in_ok-counts.ensures c.in_ok-nodes.ensures c.if-nodes-eq0.false in
+    let x = spans_on s b _ n c.in_ok-spans.ensures in
+    let l = lightpaths_on s b _ x c.in_ok-lightpaths.ensures in
+    let p = err_from_is_err_and c.from_residual-in_err-all.result c.from_residual-in_err-all.ensures.1 in
+    rw (p.1, p.2) (alternatives_stop s b _ l c.in_err-all.ensures)
+
+pub en-requires : goal.en-requires
+en-requires c =
+    let s = c.args.s.now in
+    let b = all_bytes s (λ i. omega (arith, c.type_inv.s i)) in
+    let n = nodes_on s b c.in_ok-counts.counts c.in_ok-counts.ensures c.in_ok-nodes.ensures c.if-nodes-eq0.false in
+    let x = spans_on s b _ n c.in_ok-spans.ensures in
+    let l = lightpaths_on s b _ x c.in_ok-lightpaths.ensures in
+    all_within s b _ l c.in_ok-all.ensures
+
+pub returns-in_err-en : goal.returns-in_err-en
+returns-in_err-en c =
+    let s = c.args.s.now in
+    let b = all_bytes s (λ i. omega (arith, c.type_inv.s i)) in
+    let n = nodes_on s b c.in_ok-counts.counts c.in_ok-counts.ensures c.in_ok-nodes.ensures c.if-nodes-eq0.false in
+    let x = spans_on s b _ n c.in_ok-spans.ensures in
+    let l = lightpaths_on s b _ x c.in_ok-lightpaths.ensures in
+    let p = err_from_is_err_and c.from_residual-in_err-en.result c.from_residual-in_err-en.ensures.1 in
+    rw (p.1, p.2) (end_stop s b _ l c.in_ok-all.ensures c.in_err-en.ensures)
+
+pub returns : goal.returns
+returns c =
+    let s = c.args.s.now in
+    let b = all_bytes s (λ i. omega (arith, c.type_inv.s i)) in
+    let n = nodes_on s b c.in_ok-counts.counts c.in_ok-counts.ensures c.in_ok-nodes.ensures c.if-nodes-eq0.false in
+    let x = spans_on s b _ n c.in_ok-spans.ensures in
+    let l = lightpaths_on s b _ x c.in_ok-lightpaths.ensures in
+    whole s b _ l c.in_ok-all.ensures c.in_ok-en.ensures

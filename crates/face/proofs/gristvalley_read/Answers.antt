@@ -1,13 +1,15 @@
--- What is stored are the numbers of the reply, and the reply is that of the reader.
+-- What is stored are the numbers of the reader's answer, and these are the numbers of the reading.
 use mathlib.Core.Path.{ap, ◌∙◌}
 use mathlib.Core.List.{List}
 use Prim.Native.Nat.{ℕ}
-use Rattle.book.specs.declared.Reply.{Reply}
-use Rattle.face.specs.Numbers.{stored, reply_row}
+use Rattle.face.specs.Numbers.{stored, answered_row, book_row}
+use Rattle.face.proofs.Rows.{row_read}
 use Rattle.face.proofs.gristvalley_read.Goals as goal
 
 pub returns : goal.returns
 returns c =
-    let out = c.args.out.now in
-    let s = c.store.ensures in
-    (s.0, s.1 ∙ ap (λ (x : List ℕ). stored x out) (c.read_row-row.ensures ∙ ap (λ (r : Reply). reply_row r.answer r.book) c.read-reply.ensures))
+    let s = c.args.s.now in
+    let out = c.args.out.now in (
+      c.store.ensures.0,
+      c.store.ensures.1 ∙ ap (λ (x : List ℕ). stored x out) (ap (answered_row book_row) c.read-answer.ensures ∙ row_read s),
+    )

@@ -3,14 +3,11 @@
 use native.Mathlib.Omega.{arith}
 use Rattle.book.proofs.Stages.{all_bytes}
 use Rattle.judgement.specs.Answers.{asked_of}
-use Rattle.judgement.proofs.Opened.{good_held, good_told, refused_told}
+use Rattle.judgement.proofs.Opened.{good_held, good_told}
 use Rattle.judgement.proofs.ask.Goals as goal
 
 pub asked_of-requires : goal.asked_of-requires
-asked_of-requires c = good_held _ _ _ c.choose-reply.ensures (all_bytes c.args.s.now (λ i. omega (arith, c.type_inv.s i))) c.in-Good.is
+asked_of-requires c = good_held _ _ c.in_ok-choose.ensures (all_bytes c.args.s.now (λ i. omega (arith, c.type_inv.s i)))
 
-pub returns-in-Good : goal.returns-in-Good
-returns-in-Good c = good_told _ _ _ c.choose-reply.ensures (λ g. asked_of g c.args.x) (all_bytes c.args.s.now (λ i. omega (arith, c.type_inv.s i))) c.in-Good.is c.asked_of.ensures
-
-pub returns-in-Refused : goal.returns-in-Refused
-returns-in-Refused c = refused_told _ _ _ c.choose-reply.ensures (λ g. asked_of g c.args.x) c.in-Refused.is
+pub returns : goal.returns
+returns c = good_told _ _ c.in_ok-choose.ensures (λ g. asked_of g c.args.x) (all_bytes c.args.s.now (λ i. omega (arith, c.type_inv.s i))) c.asked_of.ensures

@@ -3,14 +3,11 @@
 use native.Mathlib.Omega.{arith}
 use Rattle.book.proofs.Stages.{all_bytes}
 use Rattle.judgement.specs.Answers.{asked_set_of}
-use Rattle.judgement.proofs.Opened.{good_held, good_told, refused_told}
+use Rattle.judgement.proofs.Opened.{good_held, good_told}
 use Rattle.judgement.proofs.ask_set.Goals as goal
 
 pub set_asked_of-requires : goal.set_asked_of-requires
-set_asked_of-requires c = good_held _ _ _ c.choose-reply.ensures (all_bytes c.args.s.now (λ i. omega (arith, c.type_inv.s i))) c.in-Good.is
+set_asked_of-requires c = good_held _ _ c.in_ok-choose.ensures (all_bytes c.args.s.now (λ i. omega (arith, c.type_inv.s i)))
 
-pub returns-in-Good : goal.returns-in-Good
-returns-in-Good c = good_told _ _ _ c.choose-reply.ensures (λ g. asked_set_of g c.args.low c.args.high) (all_bytes c.args.s.now (λ i. omega (arith, c.type_inv.s i))) c.in-Good.is c.set_asked_of.ensures
-
-pub returns-in-Refused : goal.returns-in-Refused
-returns-in-Refused c = refused_told _ _ _ c.choose-reply.ensures (λ g. asked_set_of g c.args.low c.args.high) c.in-Refused.is
+pub returns : goal.returns
+returns c = good_told _ _ c.in_ok-choose.ensures (λ g. asked_set_of g c.args.low c.args.high) (all_bytes c.args.s.now (λ i. omega (arith, c.type_inv.s i))) c.set_asked_of.ensures

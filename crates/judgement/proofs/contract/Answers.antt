@@ -1,16 +1,15 @@
 -- The reading of the choice is a good book, of which the answer is told, or a refusal, which is handed on.
 -- Each is a law of `Opened`, for whatever is answered of a reading.
+use mathlib.Core.Path.{ap}
+use Rattle.std.specs.Prelude.{Ok}
 use native.Mathlib.Omega.{arith}
 use Rattle.book.proofs.Stages.{all_bytes}
 use Rattle.judgement.specs.Contraction.{contracted_of}
-use Rattle.judgement.proofs.Opened.{good_held, good_told, refused_told}
+use Rattle.judgement.proofs.Opened.{good_held, good_told}
 use Rattle.judgement.proofs.contract.Goals as goal
 
 pub contracted_of-requires : goal.contracted_of-requires
-contracted_of-requires c = good_held _ _ _ c.choose-reply.ensures (all_bytes c.args.s.now (λ i. omega (arith, c.type_inv.s i))) c.in-Good.is
+contracted_of-requires c = good_held _ _ c.in_ok-choose.ensures (all_bytes c.args.s.now (λ i. omega (arith, c.type_inv.s i)))
 
-pub returns-in-Good : goal.returns-in-Good
-returns-in-Good c = good_told _ _ _ c.choose-reply.ensures contracted_of (all_bytes c.args.s.now (λ i. omega (arith, c.type_inv.s i))) c.in-Good.is c.contracted_of.ensures
-
-pub returns-in-Refused : goal.returns-in-Refused
-returns-in-Refused c = refused_told _ _ _ c.choose-reply.ensures contracted_of c.in-Refused.is
+pub returns : goal.returns
+returns c = good_told _ _ c.in_ok-choose.ensures contracted_of (all_bytes c.args.s.now (λ i. omega (arith, c.type_inv.s i))) (λ m e w. ap Ok (c.contracted_of.ensures m e w))

@@ -7,7 +7,7 @@ use Rattle.search.proofs.find.Goals as goal
 
 pub loop-n-init : goal.loop-n-init
 loop-n-init c =
-    trying_start (record { movables = c.of-w.ensures; all = c.total-total.ensures; lesser = c.lesser-end.ensures }) c.of-c.ensures
+    trying_start (record { movables = c.of-w.ensures; all = c.total-total.ensures; lesser = c.min-end.ensures }) c.of-c.ensures
 
 pub returns-then-acceptable : goal.returns-then-acceptable
 returns-then-acceptable c m held fits =

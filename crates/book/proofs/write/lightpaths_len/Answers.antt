@@ -1,31 +1,18 @@
--- After k turns the total and the bytes of the records left are the bytes of all records, in whichever book is held.
--- A book that is held has at most 96 lightpaths and routes of at most 16 spans, so no sum is too large.
+-- A book has at most 152 routes, and the length of one is a byte, so that the sum fits.
+use mathlib.Core.Path.{◌≡◌}
+use lib.ListN.{length, length-take}
 use native.Mathlib.Omega.{arith}
-use mathlib.Core.Path.{◌∙◌}
-use Prim.Native.Nat.{◌≤◌}
-use lib.ListN.{get_or}
-use Rattle.book.proofs.Writers.{held_few, held_short, passed_start, passed_low, passed_next, passed_done}
+use borrow.Author.Rules.{rules}
+use borrow.Author.Tests.{tests}
+use Rattle.std.proofs.lemmas.Iterator.{YieldsList-from_slice, YieldsList-from_take}
+use Rattle.std.proofs.lemmas.Iterator.Adapters.{fits_from_length, at_most_from_yields_List}
+use Rattle.std.proofs.lemmas.Iterator.Consumers.{YieldsList-at}
 use Rattle.book.proofs.write.lightpaths_len.Goals as goal
-use Rattle.book.proofs.write.lightpaths_len.Goals.{In-loop-k}
 
-module _ (c : In-loop-k) where
-  short : get_or c.args.b.len c.loop-k.k 0 ≤ 16
-  short = held_short c.requires c.loop-k.k c.loop-k-test.true
-
-pub loop-k-init : goal.loop-k-init
-loop-k-init c = passed_start _ 0
-
-pub bounds-b-k : goal.bounds-b-k
-bounds-b-k c = omega (arith, held_few c.requires, c.loop-k-test.true)
-
-pub overflow_add-total : goal.overflow_add-total
-overflow_add-total c = omega (arith, short (goal.at.overflow_add-total c).In-loop-k)
-
-pub overflow_add-total-in-loop-k : goal.overflow_add-total-in-loop-k
-overflow_add-total-in-loop-k c = omega (arith, short (goal.at.overflow_add-total-in-loop-k c).In-loop-k, passed_low _ 0 c.loop-k.invariant c.requires)
-
-pub loop-k-preserved : goal.loop-k-preserved
-loop-k-preserved c = passed_next _ 0 c.loop-k.invariant c.loop-k-test.true
-
-pub returns : goal.returns
-returns c = λ m e. passed_done _ 0 c.loop-k.invariant c.loop-k-test.false m e ∙ omega arith
+pub sum-requires-clause-fits : goal.sum-requires-clause-fits
+sum-requires-clause-fits c =
+    let b = c.args.b.now in
+    let few : length b.len ≡ 152 = search rules in
+    fits_from_length _ _ 152 _
+    (at_most_from_yields_List (YieldsList-at c.map.ensures.source (YieldsList-from_take b.lightpaths (YieldsList-from_slice b.len (cc)) (cc))) (omega (arith, length-take b.lightpaths b.len)))
+    c.map.ensures.closure (omega arith) (λ x r q k. search (rules, tests))

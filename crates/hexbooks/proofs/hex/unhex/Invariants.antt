@@ -1,9 +1,6 @@
--- A line has at most 4,096 bytes.
-use Rattle.std.proofs.Common.{◌-◌, ◌≤◌}
+-- What was put stands within the space.
+use Rattle.std.proofs.Common.{◌≤◌, length}
 use Rattle.hexbooks.proofs.hex.unhex.Given as goal
 
-abbrev pub invariant-loop-n : goal.invariant-loop-n
-invariant-loop-n l = l.n ≤ 4096
-
-abbrev pub decreases-loop-n : goal.decreases-loop-n
-decreases-loop-n l = 4096 - l.n
+abbrev pub invariant-loop-word : goal.invariant-loop-word
+invariant-loop-word l = l.n ≤ length l.space

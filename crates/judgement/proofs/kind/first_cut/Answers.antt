@@ -1,48 +1,17 @@
--- After i spans none of them parts the stations, so the first that does is the first of those left.
--- The side of the code is the side in the arrays, by the contract of `side_without`.
-use Prim.Native.Nat.{ℕ}
-use mathlib.Core.Path.{◌≡◌, sym, ap, ◌∙◌}
-use mathlib.Core.Bool.{not}
-use native.Mathlib.Omega.{arith}
-use borrow.Author.Tests.{eq-eqb, ne_eqb}
-use Rattle.judgement.specs.Inside.{side_in}
-use Rattle.judgement.proofs.First.{looking_start, looking_next, looking_hit, looking_end}
+-- The search finds the first span whose loss parts the stations. The side of the code is the side in the arrays, by the contract of `side_without`.
+use Rattle.std.proofs.Common.{rules, ◌+◌, ℕ, not}
+use lib.Dec.{eqb}
+use Rattle.judgement.specs.Network.{side_of}
+use Rattle.judgement.specs.Nets.{net_in}
+use Rattle.judgement.specs.Inside.{unset}
+use Rattle.judgement.specs.declared.kind.Parted.{Parted}
+use Rattle.judgement.proofs.Finds.{found_mapped}
 use Rattle.judgement.proofs.kind.first_cut.Goals as goal
-use Rattle.judgement.proofs.kind.first_cut.Goals.{After-side_without-s}
-
--- the side of this turn
-module _ (c : After-side_without-s) where
-  abbrev side : ℕ
-  side = let a = c.args in side_in a.b a.start a.words c.loop-i.i
-
-  abbrev stations : ℕ
-  stations = c.args.b.stations
-
-  side_is : c.side_without-s.result.mask ≡ side
-  side_is = c.side_without-s.ensures
-
-pub loop-i-init : goal.loop-i-init
-loop-i-init c = looking_start _ _ _ _
-
-pub side_without-s-requires : goal.side_without-s-requires
-side_without-s-requires c =
-    let q = c.requires in
-    (q.0, q.1, q.2, omega (arith, c.loop-i-test.true, q))
-
-pub overflow_add-result : goal.overflow_add-result
-overflow_add-result c = omega (arith, c.loop-i-test.true, c.requires)
-
-pub returns-then-s-b : goal.returns-then-s-b
-returns-then-s-b c =
-    let l = c.loop-i in
-    let parts = ap not (ne_eqb (side (goal.at.returns-then-s-b c).After-side_without-s) (stations (goal.at.returns-then-s-b c).After-side_without-s) (λ e. c.if-s-b.true (side_is (goal.at.returns-then-s-b c).After-side_without-s ∙ e))) in
-    rw (side_is (goal.at.returns-then-s-b c).After-side_without-s) (sym (looking_hit _ _ _ l.invariant c.loop-i-test.true parts))
-
-pub loop-i-preserved : goal.loop-i-preserved
-loop-i-preserved c =
-    let l = c.loop-i in
-    looking_next _ _ _ l.invariant c.loop-i-test.true
-    (ap not (eq-eqb (side (goal.at.loop-i-preserved c).After-side_without-s) (stations (goal.at.loop-i-preserved c).After-side_without-s) (sym (side_is (goal.at.loop-i-preserved c).After-side_without-s) ∙ c.if-s-b.false)))
 
 pub returns : goal.returns
-returns c = sym (looking_end _ _ _ c.loop-i.invariant c.loop-i-test.false)
+returns c =
+    let side : ℕ → ℕ = λ i. side_of (net_in c.net-net.result) (unset c.args.words.now i) 64 c.lowest-start.result in
+    let parted : ℕ → Parted = λ i. record { span = c.args.base + i; side = side i } in
+    let found = found_mapped (λ i. not (eqb (side i) c.args.b.now.book.stations)) parted _ c.args.count (λ x r q e. search rules) _ c.find_map.ensures.runs in
+    let e = c.net-net.ensures in
+    rw (e.0, e.1, e.2, c.lowest-start.ensures.0) at found

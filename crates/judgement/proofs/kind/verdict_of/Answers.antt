@@ -1,40 +1,23 @@
--- A struct that is not usable has its own answer; of another, the first span over its limit is the answer, or what follows where there is none.
+-- A struct that cannot be judged has its own answer; of another, the first span over its limit is the answer, or what follows where there is none.
 -- Both are one search, whose last answer is what follows.
 use mathlib.Core.Path.{◌≡◌, sym, ap, ◌∙◌}
 use mathlib.Core.Bool.{Bool, cond}
 use Rattle.judgement.specs.declared.Verdict.TheVariants.{Split}
+use Rattle.judgement.specs.declared.judgeable.Judgeable.{Judgeable}
 use Rattle.judgement.specs.Arrays.{split_or_in, over_or_in, verdict_in}
-use Rattle.judgement.specs.Holding.{Usable}
 use Rattle.judgement.proofs.Found.{over_or, over_is}
 use Rattle.judgement.proofs.kind.verdict_of.Goals as goal
-use Rattle.judgement.proofs.kind.verdict_of.Goals.{Else-not-usable}
 
 -- where the struct is usable
-module _ (c : Else-not-usable) where
-  passed : Usable c.args.b
-  passed = record { is = sym c.usable.ensures ∙ c.if-not-usable.false }
+judged : (j : Judgeable) → over_or_in j.book ≡ verdict_in j.book
+judged j = sym (ap (λ (t : Bool). cond t (over_or_in j.book) (Split 0)) j.usable.is)
 
-  judged : over_or_in c.args.b ≡ verdict_in c.args.b
-  judged = sym (ap (λ (t : Bool). cond t (over_or_in c.args.b) (Split 0)) passed.is)
+pub returns-in-Some-first_over : goal.returns-in-Some-first_over
+returns-in-Some-first_over c =
+    let j = c.in-Some.b in
+    ap (over_or (split_or_in j.book)) (sym c.in-Some-first_over.is) ∙ over_is j.book _ c.first_over.ensures ∙ judged j ∙ ap verdict_in c.in-Some.ensures
 
-pub returns-then-not-usable : goal.returns-then-not-usable
-returns-then-not-usable c = sym (ap (λ (t : Bool). cond t (over_or_in c.args.b) (Split 0)) (sym c.usable.ensures ∙ c.if-not-usable.true))
-
-pub loads_of-loads-requires : goal.loads_of-loads-requires
-loads_of-loads-requires c = passed c
-
-pub first_over-first-requires : goal.first_over-first-requires
-first_over-first-requires c = (passed (goal.at.first_over-first-requires c).Else-not-usable, c.loads_of-loads.ensures)
-
-pub split_or-requires : goal.split_or-requires
-split_or-requires c = passed (goal.at.split_or-requires c).Else-not-usable
-
-pub returns-in-At : goal.returns-in-At
-returns-in-At c =
-    let b = c.args.b in
-    ap (over_or (split_or_in b)) (sym c.in-At.is) ∙ over_is b _ c.first_over-first.ensures ∙ judged (goal.at.returns-in-At c).Else-not-usable
-
-pub returns-in-Nowhere : goal.returns-in-Nowhere
-returns-in-Nowhere c =
-    let b = c.args.b in
-    c.split_or.ensures ∙ ap (over_or (split_or_in b)) (sym c.in-Nowhere.is) ∙ over_is b _ c.first_over-first.ensures ∙ judged (goal.at.returns-in-Nowhere c).Else-not-usable
+pub returns-in-None : goal.returns-in-None
+returns-in-None c =
+    let j = c.in-Some.b in
+    c.split_or.ensures ∙ ap (over_or (split_or_in j.book)) (sym c.in-None.is) ∙ over_is j.book _ c.first_over.ensures ∙ judged j ∙ ap verdict_in c.in-Some.ensures

@@ -1,12 +1,8 @@
--- After j turns each span has one more for each of the first j places of the route at which it stands.
+-- After some places of the route each span has one more for each of them at which it stands.
 -- No load was more than 1,536 and the route has at most 16 places, so no sum is too large.
-use Prim.Native.Nat.{◌-◌, ◌≤◌}
-use lib.ListN.{length, take}
+use lib.ListN.{take}
 use Rattle.judgement.specs.Holding.{Counted}
 use Rattle.judgement.proofs.load.add_route.Given as goal
 
-abbrev pub invariant-loop-j : goal.invariant-loop-j
-invariant-loop-j l = (l.j ≤ length l.route) × Counted l.initial.loads (take l.j l.route) l.loads
-
-abbrev pub decreases-loop-j : goal.decreases-loop-j
-decreases-loop-j l = length l.route - l.j
+abbrev pub invariant-loop-span : goal.invariant-loop-span
+invariant-loop-span l = Counted l.initial.loads (take l.span-index l.route) l.loads

@@ -1,13 +1,9 @@
 -- After k turns the total is the sum of the first k spans' loads above their limits, as the arrays have them.
 -- The arrays say of each span what the book says of it, and that sum is at most 1,536, so that none is too large.
 use mathlib.Core.Path.{◌≡◌}
-use Prim.Native.Nat.{◌-◌, ◌≤◌}
 use Rattle.judgement.specs.Judgement.{sum}
 use Rattle.judgement.proofs.Excess.{excess_in}
 use Rattle.judgement.proofs.load.excess.Given as goal
 
 abbrev pub invariant-loop-k : goal.invariant-loop-k
-invariant-loop-k l = (l.k ≤ l.b.spans) × (l.total ≡ sum (excess_in l.b l.loads) l.k)
-
-abbrev pub decreases-loop-k : goal.decreases-loop-k
-decreases-loop-k l = l.n - l.k
+invariant-loop-k l = l.total ≡ sum (excess_in l.b.book l.loads) l.k

@@ -8,8 +8,8 @@ use Rattle.book.specs.Memory.{book_of}
 use Rattle.judgement.proofs.Engine.{Going}
 use Rattle.judgement.proofs.merge.pieces_of.Given as goal
 
-abbrev pub invariant-loop-touched : goal.invariant-loop-touched
-invariant-loop-touched l = (m : RouteBook) → l.b ≡ book_of m → well_formed m ≡ true → Going m l.label l.merges
+abbrev pub invariant-loop-ring : goal.invariant-loop-ring
+invariant-loop-ring l = (m : RouteBook) → l.fn.j.book ≡ book_of m → well_formed m ≡ true → Going m l.labels.of l.merges
 
-abbrev pub decreases-loop-touched : goal.decreases-loop-touched
-decreases-loop-touched l = 4096 - l.merges
+abbrev pub decreases-loop-ring : goal.decreases-loop-ring
+decreases-loop-ring l = 4096 - l.merges

@@ -4,4 +4,4 @@ use Rattle.judgement.proofs.MetWords.{site-in}
 use Rattle.judgement.proofs.node.closed_of.Goals as goal
 
 pub returns : goal.returns
-returns c m e good = rw (c.first_down.ensures ∙ site-in m good e c.met_by-words.ensures)
+returns c m e good = c.first_down.ensures ∙ site-in m good e c.met_by.ensures

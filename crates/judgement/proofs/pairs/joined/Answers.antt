@@ -9,6 +9,3 @@ returns-then-has c net up w s = c.has-then-has.ensures ∙ known_in 64 net up w.
 
 pub returns-then-has-2 : goal.returns-then-has-2
 returns-then-has-2 c net up w s = known_out 64 net up w.ends s _ c.requires.0 (sym c.has.ensures ∙ c.if-has.false) (sym c.has-2.ensures ∙ c.if-has-2.true)
-
-pub returns : goal.returns
-returns c net up w s = c.reaches.ensures net up w

@@ -3,6 +3,7 @@
 use mathlib.Core.Path.{sym}
 use Rattle.book.proofs.Bits.{put_zero}
 use Rattle.judgement.proofs.Joins.{in_side}
+use Rattle.judgement.proofs.Tests.{told_apart, told_alike}
 use Rattle.judgement.proofs.Worklist.{working_start, next_lt, taken_once, working_next, working_end}
 use Rattle.judgement.proofs.side.reaches.Goals as goal
 
@@ -17,17 +18,17 @@ returns-then-has c net up w =
 pub take-g-requires : goal.take-g-requires
 take-g-requires c =
     let some = c.requires.2 in
-    (some.led.leads.long, next_lt _ _ _ _ (c.loop-g.invariant _ _ some.led) c.loop-g-test.true)
+    next_lt _ _ _ _ (c.loop-g.invariant _ _ some.led) (told_apart c.ne.ensures c.loop-g-test.true)
 
 pub loop-g-smaller : goal.loop-g-smaller
 loop-g-smaller c =
     let some = c.requires.2 in
-    rw c.take-g.ensures (taken_once _ _ _ _ (c.loop-g.invariant _ _ some.led) c.loop-g-test.true)
+    rw c.take-g.ensures (taken_once _ _ _ _ (c.loop-g.invariant _ _ some.led) (told_apart c.ne.ensures c.loop-g-test.true))
 
 pub loop-g-preserved : goal.loop-g-preserved
 loop-g-preserved c net up w =
-    rw c.take-g.ensures (working_next 64 net up _ (c.loop-g.invariant net up w) c.loop-g-test.true w.leads)
+    rw c.take-g.ensures (working_next 64 net up _ (c.loop-g.invariant net up w) (told_apart c.ne.ensures c.loop-g-test.true) w.leads)
 
 pub returns : goal.returns
 returns c net up w =
-    rw (c.has-2.ensures, working_end 64 net up _ w.ends c.requires.0 (c.loop-g.invariant net up w) c.loop-g-test.false)
+    rw (c.has-2.ensures, working_end 64 net up _ w.ends c.requires.0 (c.loop-g.invariant net up w) (told_alike c.ne.ensures c.loop-g-test.false))

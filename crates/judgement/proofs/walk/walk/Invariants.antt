@@ -2,15 +2,12 @@
 -- span these are the lowest of all and the pairs of all.
 use mathlib.Core.Path.{◌≡◌}
 use Prim.Native.Nat.{◌+◌}
-use Rattle.judgement.specs.declared.kind.Parted.TheVariants.{Nowhere}
-use Rattle.judgement.specs.Arrays.{lowest_in}
+use Rattle.std.specs.Prelude.{None}
 use Rattle.judgement.specs.Inside.{parts_in, cut_in, apart_in}
 use Rattle.judgement.proofs.First.{Back}
 use Rattle.judgement.proofs.walk.walk.Given as goal
 
 abbrev pub invariant-loop-i : goal.invariant-loop-i
 invariant-loop-i l =
-    Back (parts_in l.b (lowest_in l.b) l.words) (cut_in l.b (lowest_in l.b) l.words l.base) Nowhere l.count l.i l.parted × (l.pairs + apart_in l.b.lightpaths l.b.from l.b.to l.words l.i ≡ apart_in l.b.lightpaths l.b.from l.b.to l.words l.count)
-
-abbrev pub decreases-loop-i : goal.decreases-loop-i
-decreases-loop-i l = l.i
+    let b = l.fn.b.book in
+    Back (parts_in b l.words) (cut_in b l.words l.base) None l.count l.i l.cut × (l.pairs + apart_in b.lightpaths b.from b.to l.words l.i ≡ apart_in b.lightpaths b.from b.to l.words l.count)

@@ -1,13 +1,9 @@
--- After i bytes, what they are, taken on with the bytes that are left, is what the word is.
-use Prim.Native.Nat.{◌-◌, ◌≤◌}
+-- What the first bytes are worth, taken on with the bytes that are left, is what the word is worth.
+use Prim.Native.Nat.{◌^◌, ◌<◌}
 use mathlib.Core.Path.{◌≡◌}
-use lib.ListN.{length, drop}
-use Rattle.listing.specs.declared.number.Parsed.TheVariants.{Empty}
-use Rattle.listing.proofs.Numbers.{taken_on}
+use lib.ListN.{drop}
+use Rattle.listing.specs.Text.{worth_from, worth}
 use Rattle.listing.proofs.number.parse.Given as goal
 
-abbrev pub invariant-loop-i : goal.invariant-loop-i
-invariant-loop-i l = (l.i ≤ length l.word) × (taken_on l.p (drop l.i l.word) ≡ taken_on Empty l.word)
-
-abbrev pub decreases-loop-i : goal.decreases-loop-i
-decreases-loop-i l = length l.word - l.i
+abbrev pub invariant-loop-c : goal.invariant-loop-c
+invariant-loop-c l = (l.n < 2 ^ 32) × (worth_from 10 l.n (drop l.c-index l.word) ≡ worth 10 l.word)

@@ -1,11 +1,14 @@
--- Up to digit i all have gone back to 0, and from there on they are as they were, so stepping those gives the whole.
+-- The digits before i have gone back to 0, and stepping those from i on gives the whole.
 -- The first digit with room ends the loop; if none has, all are 0.
-use Prim.Native.Nat.{◌-◌}
-use Rattle.book.proofs.Digits.{Stepping}
+use mathlib.Core.Path.{◌≡◌}
+use mathlib.Core.List.{◌++◌}
+use lib.ListN.{length, take, drop}
+use Rattle.book.specs.Choice.{stepped}
+use Rattle.book.specs.Moving.{capped}
 use Rattle.book.proofs.choice.Choice.next.Given as goal
 
 abbrev pub invariant-loop-i : goal.invariant-loop-i
-invariant-loop-i l = Stepping l.more l.initial.c.digits l.c.digits l.i
-
-abbrev pub decreases-loop-i : goal.decreases-loop-i
-decreases-loop-i l = 8 - l.i
+invariant-loop-i l = record {
+  eight : length l.c.digits ≡ 8;
+  left : take l.i l.c.digits ++ stepped (drop l.i (capped l.more-items)) (drop l.i l.c.digits) ≡ stepped (capped l.more-items) l.initial.c.digits;
+}

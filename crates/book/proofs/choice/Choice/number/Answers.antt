@@ -1,44 +1,51 @@
--- After i digits, the sum so far and the sum of those left, with the weight of digit i, make the number.
--- The weight is at most 8 to the power i and a digit is a byte, which bounds the sum.
-use Prim.Native.Nat.{◌*◌, ◌^◌, ◌≤◌}
+-- The sum so far and the sum of the digits that are left make the number, which is small; and the weight times the sizes that are left is their product.
+-- So neither the sum nor the weight leaves 32 bits.
+use mathlib.Core.Path.{◌≡◌, sym, ap, ◌∙◌}
+use mathlib.Core.Logic.{◌⊎◌, inl, inr}
+use Prim.Native.Nat.{ℕ, suc, min, ◌+◌, ◌*◌, ◌≤◌, ◌<◌, ◌^◌}
 use mir.Syntax.{w8}
 use mir.Val.{Fits}
-use native.Mathlib.Nat.{le_antisymm, mul_comm}
+use lib.ListN.{length, get_or}
 use native.Mathlib.Omega.{arith}
-use lib.ListN.{get_or}
-use Rattle.book.proofs.Digits.{weighing_start, weighing_next, weighing_end, times_size, size_most, digit_times, power}
+use native.Mathlib.Nat.{mul-le-mul_left}
 use borrow.Author.Rules.{rules}
+use Rattle.book.proofs.Digits.{weighed_next, product_next, weighed_end, number_most, product_some, product_most}
 use Rattle.book.proofs.choice.Choice.number.Goals as goal
-use Rattle.book.proofs.choice.Choice.number.Goals.{In-loop-i-unread-2}
+use Rattle.book.proofs.choice.Choice.number.Goals.{In-Some}
 
--- digit i is a byte
-byte : (c : In-loop-i-unread-2) → get_or c.args.self.digits c.loop-i.i 0 ≤ 255
-byte c = let z : Fits w8 (get_or c.args.self.digits c.loop-i.i 0) = search rules in omega arith
-
-term : (c : In-loop-i-unread-2) → get_or c.args.self.digits c.loop-i.i 0 * c.loop-i.weight ≤ 255 * 8 ^ c.loop-i.i
-term c = (digit_times c.loop-i.weight _ c.loop-i.i c.loop-i-test.true (byte c) c.loop-i.invariant.most).0
-
-pub loop-i-init : goal.loop-i-init
-loop-i-init c = weighing_start _ _ (search rules) (search rules)
+-- the digit times its weight, with the sum so far, is no more than the number
+small : (c : In-Some) → c.loop-digit.n + c.in-Some.digit.now * c.loop-digit.weight < 2 ^ 32
+small c =
+    let l = c.loop-digit in
+    let now = c.in-Some.ensures.steps in
+    let bytes : (i : _) → get_or c.args.self.digits i 0 ≤ 255 = λ i. (let z : Fits w8 (get_or c.args.self.digits i 0) = search rules in omega arith) in
+    let all = number_most c.args.w.more c.args.self.digits (search rules) bytes in
+    omega (arith, all, l.invariant.sum, weighed_next l.weight now.0 now.1)
 
 pub overflow_mul-n : goal.overflow_mul-n
-overflow_mul-n c =
-    omega (arith, term c, power c.loop-i.i c.loop-i-test.true)
+overflow_mul-n c = omega (arith, small (goal.at.overflow_mul-n c).In-Some)
 
 pub overflow_add-n : goal.overflow_add-n
-overflow_add-n c = omega (arith, term c, c.loop-i.invariant.small, power c.loop-i.i c.loop-i-test.true)
+overflow_add-n c = omega (arith, small (goal.at.overflow_add-n c).In-Some)
 
 pub overflow_mul-weight : goal.overflow_mul-weight
 overflow_mul-weight c =
-    let l = c.loop-i in
-    let z = c.size-weight.result in
-    omega (arith, mul_comm l.weight z, times_size z l.weight l.i c.loop-i-test.true (omega (arith, c.size-weight.ensures, size_most (get_or c.args.w.more l.i 0))) l.invariant.most)
+    let l = c.loop-digit in
+    let now = c.in-Some.ensures.steps in
+    let long : length c.args.w.more ≡ 8 = search rules in
+    let most = product_most c.args.w.more in
+    rw c.size-weight.ensures
+    (omega (arith, most, ap (λ (n : ℕ). 8 ^ n) long, l.invariant.weights, product_next l.weight now.1, mul-le-mul_left (l.weight * suc (min c.in-Some.more.now 7)) (product_some c.next.new.self.b.rest.now)))
 
-pub loop-i-preserved : goal.loop-i-preserved
-loop-i-preserved c =
-    let l = c.loop-i in
-    let z : Fits w8 (get_or c.args.self.digits l.i 0) = search rules in
-    rw c.size-weight.ensures (weighing_next _ _ l.n l.weight l.i l.invariant c.loop-i-test.true (omega arith))
+pub loop-digit-preserved : goal.loop-digit-preserved
+loop-digit-preserved c =
+    let l = c.loop-digit in
+    let now = c.in-Some.ensures.steps in
+    rw c.size-weight.ensures
+    record { sum = omega (arith, l.invariant.sum, weighed_next l.weight now.0 now.1); weights = sym (product_next l.weight now.1) ∙ l.invariant.weights }
 
 pub returns : goal.returns
-returns c = weighing_end _ _ _ _ (rw (le_antisymm c.loop-i.invariant.few c.loop-i-test.false) at c.loop-i.invariant)
+returns c =
+    let l = c.loop-digit in
+    let none : (length l.digit-iterator.a.rest.now ≡ 0) ⊎ (length l.digit-iterator.b.rest.now ≡ 0) = elim c.in-None.ensures.steps [ inl e ↦ inl e.1.0 | inr e ↦ inr e.1.0 ] in
+    omega (arith, l.invariant.sum, weighed_end l.weight _ _ none)

@@ -1,25 +1,23 @@
--- After j alternatives, gathering those left gives the same as gathering all from none.
--- The array has 56 places, so that a count above 56 changes nothing.
-use mathlib.Core.Path.{ap, ◌∙◌}
-use native.Mathlib.Nat.{le_antisymm}
+-- Gathering the alternatives that are left gives the same as gathering all from none.
+-- No more than eight lightpaths are found.
+use mathlib.Core.Path.{refl, sym, ◌∙◌}
 use native.Mathlib.Omega.{arith}
-use Rattle.book.specs.Moving.{no_movables, gathered}
-use Rattle.book.proofs.Movables.{gathering_start, gathering_next, gathering_end, take_min}
-use borrow.Author.Rules.{rules}
+use Rattle.book.proofs.Movables.{with_few, gathered_next, gathered_all}
 use Rattle.book.proofs.choice.Movables.of.Goals as goal
 
-pub loop-j-init : goal.loop-j-init
-loop-j-init c = gathering_start _ _ (search rules) (omega (arith, c.at_most-n.ensures))
+pub loop-k-init : goal.loop-k-init
+loop-k-init c =
+    let taken = c.take-k-items.ensures in
+    record { eight = omega arith; left = rw (c.into_iter-k-iterator.ensures.into_iter_gives, taken.source, taken.count, c.iter.ensures.rest) refl }
 
-pub with_one-w-requires : goal.with_one-w-requires
-with_one-w-requires c = c.loop-j.invariant.eight
-
-pub loop-j-preserved : goal.loop-j-preserved
-loop-j-preserved c = rw c.with_one-w.ensures (gathering_next _ _ c.loop-j.w c.loop-j.j c.loop-j.invariant c.loop-j-test.true)
+pub loop-k-preserved : goal.loop-k-preserved
+loop-k-preserved c =
+    let l = c.loop-k in
+    let now = c.in-Some.ensures.steps in
+    rw c.add.ensures record {
+      eight = with_few l.found c.in-Some.k.now l.invariant.eight;
+      left = sym (gathered_next l.found _ _ now.0 now.1) ∙ l.invariant.left;
+    }
 
 pub returns : goal.returns
-returns c =
-    let l = c.loop-j in
-    let owner = c.args.b.owner in
-    gathering_end _ _ _ (rw (le_antisymm l.invariant.few c.loop-j-test.false) at l.invariant)
-    ∙ ap (gathered no_movables) (rw c.at_most-n.ensures (take_min c.args.b.alternatives 56 owner l.invariant.long))
+returns c = let l = c.loop-k in sym (gathered_all l.found _ _ (λ some. (c.in-None.ensures.steps some).0)) ∙ l.invariant.left

@@ -1,22 +1,16 @@
--- After i sizes, the product so far times the product of those left is the product of all.
--- It is at most 8 to the power i, so that no step leaves 32 bits.
-use native.Mathlib.Nat.{le_antisymm}
-use native.Mathlib.Omega.{arith}
-use lib.ListN.{get_or}
-use Rattle.book.proofs.Digits.{multiplied_start, multiplied_next, multiplied_end, times_size, size_most}
+-- The sizes go by in the order of the digits, and their product is the number of choices.
+-- Each is at most 8, so that the product of some of them fits.
+use Prim.Native.Nat.{suc, min}
 use borrow.Author.Rules.{rules}
+use borrow.Author.Tests.{tests}
+use Rattle.std.proofs.lemmas.Iterator.{YieldsList-from_slice, YieldsList-from_map}
+use Rattle.book.proofs.Digits.{product_fits, product_all}
 use Rattle.book.proofs.choice.Movables.total.Goals as goal
 
-pub loop-i-init : goal.loop-i-init
-loop-i-init c = multiplied_start _ (search rules)
-
-pub overflow_mul-t : goal.overflow_mul-t
-overflow_mul-t c =
-    let l = c.loop-i in
-    omega (arith, c.size-t.ensures, times_size c.size-t.result l.t l.i c.loop-i-test.true (omega (arith, c.size-t.ensures, size_most (get_or c.args.self.more l.i 0))) l.invariant.most)
-
-pub loop-i-preserved : goal.loop-i-preserved
-loop-i-preserved c = rw c.size-t.ensures (multiplied_next _ c.loop-i.t c.loop-i.i c.loop-i.invariant c.loop-i-test.true)
+pub product-requires-clause-fits : goal.product-requires-clause-fits
+product-requires-clause-fits c =
+    product_fits c.args.self.more (YieldsList-from_map _ (λ x. suc (min x 7)) (YieldsList-from_slice c.args.self.more cc) c.map.ensures.closure (λ x r q k. search (rules, tests))) (search rules)
 
 pub returns : goal.returns
-returns c = multiplied_end _ _ (rw (le_antisymm c.loop-i.invariant.few c.loop-i-test.false) at c.loop-i.invariant)
+returns c =
+    product_all c.args.self.more (YieldsList-from_map _ (λ x. suc (min x 7)) (YieldsList-from_slice c.args.self.more cc) c.map.ensures.closure (λ x r q k. search (rules, tests))) _ c.product.ensures.ran

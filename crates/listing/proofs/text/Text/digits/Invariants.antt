@@ -1,11 +1,6 @@
--- Each turn writes the digit at one power of the base, from the first power on; after the last there is none left.
-use Prim.Native.Nat.{ℕ, ◌-◌, ◌^◌, ◌<◌}
-use mathlib.Core.Path.{◌≡◌}
+-- With i digits left, what is written are the digits of the number divided by that power of the base.
 use Rattle.listing.proofs.Spelling.{Spelled}
 use Rattle.listing.proofs.text.Text.digits.Given as goal
 
-abbrev pub invariant-loop-q : goal.invariant-loop-q
-invariant-loop-q l = (k : ℕ) → 0 < k → l.p ≡ l.base ^ (k - 1) → Spelled l.initial.t l.n l.base k l.t l.q
-
-abbrev pub decreases-loop-q : goal.decreases-loop-q
-decreases-loop-q l = l.q
+abbrev pub invariant-loop-i : goal.invariant-loop-i
+invariant-loop-i l = Spelled l.initial.t l.n l.base l.k l.i l.t

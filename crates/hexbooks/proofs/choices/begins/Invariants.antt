@@ -1,9 +1,0 @@
--- The place is within the bytes that are compared.
-use Rattle.std.proofs.Common.{length, ◌-◌, ◌≤◌}
-use Rattle.hexbooks.proofs.choices.begins.Given as goal
-
-abbrev pub invariant-loop-i : goal.invariant-loop-i
-invariant-loop-i l = l.i ≤ length l.s
-
-abbrev pub decreases-loop-i : goal.decreases-loop-i
-decreases-loop-i l = length l.s - l.i
