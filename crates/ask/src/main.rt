@@ -5,6 +5,7 @@
 use book::write;
 use console::Status;
 use listing::number::NotNumber;
+use listing::text::Text;
 use listing::{commands, number};
 use std::env::FillError;
 use std::io::{Error, ErrorKind};
@@ -45,7 +46,7 @@ fn number_at(rt: &HostRuntime, i: usize, name: &[u8]) -> Option<u32> {
     None
 }
 
-// The bytes of argument i, which are put into the space; none where it is missing or does not fit.
+// The bytes of argument i, which are put into the space; none where it is missing or does not fit, since what is said of a missing name may not change.
 fn word_at<'a>(rt: &HostRuntime, i: usize, space: &'a mut [u8]) -> &'a [u8] {
     let n = rt.arg(i, space).unwrap_or(0);
     &space[..n]
@@ -89,10 +90,12 @@ fn read(rt: &HostRuntime, s: &[u8]) {
     console::answer(rt, commands::read(s));
 }
 
-// `judge CHOICE`.
-fn judge(rt: &HostRuntime, s: &[u8]) {
-    if let Some(n) = number_at(rt, 3, b"CHOICE") {
-        console::answer(rt, commands::judge(s, n));
+// A verb with one number, which has the name: `judge CHOICE` and `search LIMIT`.
+fn with_number<F: Fn(&[u8], u32) -> Text>(rt: &HostRuntime, s: &[u8], name: &[u8], command: F)
+    requires { F.IsAlwaysCallable command }
+{
+    if let Some(n) = number_at(rt, 3, name) {
+        console::answer(rt, command(s, n));
     }
 }
 
@@ -102,13 +105,6 @@ fn open(rt: &HostRuntime, s: &[u8]) {
     let span = number_at(rt, 4, b"SPAN");
     if let (Some(n), Some(x)) = (choice, span) {
         console::answer(rt, commands::open(s, n, x));
-    }
-}
-
-// `search LIMIT`.
-fn search(rt: &HostRuntime, s: &[u8]) {
-    if let Some(limit) = number_at(rt, 3, b"LIMIT") {
-        console::answer(rt, commands::search(s, limit));
     }
 }
 
@@ -146,9 +142,9 @@ fn named(rt: &HostRuntime, s: &[u8]) {
 fn answer(rt: &HostRuntime, verb: &[u8], s: &[u8]) {
     match verb {
         b"read" => read(rt, s),
-        b"judge" => judge(rt, s),
+        b"judge" => with_number(rt, s, b"CHOICE", commands::judge),
         b"open" => open(rt, s),
-        b"search" => search(rt, s),
+        b"search" => with_number(rt, s, b"LIMIT", commands::search),
         b"write" => write_out(rt, s),
         b"named" => named(rt, s),
         _ => console::say(rt, b"gristvalley: the first argument is no command\n"),

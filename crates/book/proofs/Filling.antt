@@ -7,6 +7,7 @@ use mathlib.Core.Bool.{Bool}
 use native.Mathlib.Omega.{arith}
 use lib.ListN.{length, drop, set, replicate, length-reverse}
 use Rattle.book.specs.declared.Book.{Book}
+use Rattle.book.specs.declared.place.Place.{Place}
 use Rattle.book.specs.Reader.{each}
 use Rattle.book.specs.Book.{Span}
 use Rattle.book.specs.Format.{nd, sp}
@@ -44,14 +45,14 @@ module _ (s : List ℕ) (start m : ℕ) where
     pub nodes_stop : {r : Refusal} → Halted s (nd (drop at s) (drop at s)) r → Halted s (each (λ x. nd) m [] s (drop start s)) r
     nodes_stop = turned_stop (λ x. nd) s start m now.turned l
 
-  pub nodes_done : {k at stations : ℕ} → NodesTurned k at stations → m ≤ k → {b : Book} → b ≡ book_of empty_book
-      → Reached s (each (λ x. nd) m [] s (drop start s)) HoldsNodes (record { next = at; book = remade m b.spans b.lightpaths b.alternatives stations b.left b.right b.limit b.from b.to b.owner b.len b.route b.low b.high })
-  nodes_done {k} {at} now h e =
+  pub nodes_done : {k at stations : ℕ} → NodesTurned k at stations → m ≤ k → {b : Book} → b ≡ book_of empty_book → {p : Place} → p.s.now ≡ s → p.at ≡ at
+      → Reached s (each (λ x. nd) m [] s (drop start s)) HoldsNodes (record { next = p; book = remade m b.spans b.lightpaths b.alternatives stations b.left b.right b.limit b.from b.to b.owner b.len b.route b.low b.high })
+  nodes_done {k} {at} now h e q r =
       let c : m ≡ length (reverse now.before) = omega (arith, now.turned.counted, now.turned.few, length-reverse now.before) in
       record {
         value = reverse now.before;
-        is = turned_done (λ x. nd) s start m now.turned h;
-        within = now.turned.within;
+        same = q;
+        is = rw r (turned_done (λ x. nd) s start m now.turned h);
         held = rw (e, now.is_set, ← c);
       }
 
@@ -92,13 +93,13 @@ spans_stop s start m b ns e now l {r} h =
     subst (λ (x : Book). Halted s (each (λ y. sp x.nodes) m [] s (drop start s)) r) e (turned_stop (λ x. sp b.nodes) s start m now.turned l h)
 
 pub spans_done : (s : List ℕ) (start m : ℕ) (b : Book) (ns : List Bool) → b ≡ book_of (partly ns [] [] []) → {k at : ℕ} {left right limit : List ℕ}
-    → SpansTurned b.nodes s start m k at left right limit → m ≤ k
-    → Reached s (each (λ x. sp (length ns)) m [] s (drop start s)) (HoldsSpans ns) (record { next = at; book = remade b.nodes m b.lightpaths b.alternatives b.stations left right limit b.from b.to b.owner b.len b.route b.low b.high })
-spans_done s start m b ns e now h =
+    → SpansTurned b.nodes s start m k at left right limit → m ≤ k → {p : Place} → p.s.now ≡ s → p.at ≡ at
+    → Reached s (each (λ x. sp (length ns)) m [] s (drop start s)) (HoldsSpans ns) (record { next = p; book = remade b.nodes m b.lightpaths b.alternatives b.stations left right limit b.from b.to b.owner b.len b.route b.low b.high })
+spans_done s start m b ns e now h q r =
     let c : m ≡ length (reverse now.before) = omega (arith, now.turned.counted, now.turned.few, length-reverse now.before) in
     record {
       value = reverse now.before;
-      is = ap (λ (x : Book). each (λ y. sp x.nodes) m [] s (drop start s)) (sym e) ∙ turned_done (λ x. sp b.nodes) s start m now.turned h;
-      within = now.turned.within;
+      same = q;
+      is = rw r (ap (λ (x : Book). each (λ y. sp x.nodes) m [] s (drop start s)) (sym e) ∙ turned_done (λ x. sp b.nodes) s start m now.turned h);
       held = rw (e, now.is_left, now.is_right, now.is_limit, ← c);
     }

@@ -1,18 +1,15 @@
 -- Bytes laid over a buffer: two runs, one behind the other, are one run, and a run at the buffer's head is all that stands before the rest.
--- The buffer keeps its length, so a run that fits at first still fits after those before it.
+-- So what is written piece by piece is what is written at once.
 use Prim.Native.Nat.{ℕ, ◌+◌, ◌≤◌}
 use mathlib.Core.Path.{◌≡◌, sym, ap, ap₂, ◌∙◌}
 use mathlib.Core.List.{List, [], ◌++◌, append_assoc}
 use native.Mathlib.Omega.{arith}
 use lib.ListN.{length, take, drop, length-append}
-use lib.Seq.{paste-zero, length-paste, take-paste, drop-paste, take-length, drop-drop, take-append-add, drop-append-add}
+use lib.Seq.{paste-zero, take-paste, drop-paste, take-length, drop-drop, take-append-add, drop-append-add}
 use Rattle.book.specs.Memory.{laid}
 
 pub laid_none : (d : List ℕ) (at : ℕ) → laid d at [] ≡ d
 laid_none d at = sym (paste-zero d at [])
-
-pub laid_long : (d : List ℕ) (at : ℕ) (x : List ℕ) → at + length x ≤ length d → length (laid d at x) ≡ length d
-laid_long d at x h = length-paste d at x (length x) h (omega arith)
 
 -- what laid bytes are, with no more said of how many of them there are
 laid_is : (d : List ℕ) (at : ℕ) (x : List ℕ) → laid d at x ≡ take at d ++ x ++ drop (at + length x) d

@@ -9,6 +9,7 @@ use lib.ListN.{length, drop, set, replicate, length-map, length-append, length-r
 use lib.Seq.{paste}
 use lib.Dec.{eqb}
 use Rattle.book.specs.declared.Book.{Book}
+use Rattle.book.specs.declared.place.Place.{Place}
 use Rattle.book.specs.Reader.{each}
 use Rattle.book.specs.Book.{Span, Lightpath, Alternative, every, lightpath_ends, lightpath_fits, length_fits, ends_of, lightpath_of}
 use Rattle.book.specs.Format.{lp, al}
@@ -94,15 +95,15 @@ module _ (b : Book) (s : List ℕ) (start m : ℕ) where
           in_rows = record_row route_of [] now.before x now.in_rows k p.route.now (omega (arith, now.counted)) (omega arith) refl h.short;
         }
 
-  pub lightpaths_done : {k at : ℕ} {from to len route low high : List ℕ} → LightpathsTurned k at from to len route low high → m ≤ k
-      → (ns : List Bool) (sps : List Span) → b ≡ book_of (partly ns sps [] []) → Reached s (each (λ x. lp ns sps) m [] s (drop start s)) (HoldsLightpaths ns sps) (record { next = at; book = remade b.nodes b.spans m b.alternatives b.stations b.left b.right b.limit from to b.owner len route low high })
-  lightpaths_done {k} {at} {from} {to} {len} {route} {low} {high} now h ns sps e =
+  pub lightpaths_done : {k at : ℕ} {from to len route low high : List ℕ} → LightpathsTurned k at from to len route low high → m ≤ k → {p : Place} → p.s.now ≡ s → p.at ≡ at
+      → (ns : List Bool) (sps : List Span) → b ≡ book_of (partly ns sps [] []) → Reached s (each (λ x. lp ns sps) m [] s (drop start s)) (HoldsLightpaths ns sps) (record { next = p; book = remade b.nodes b.spans m b.alternatives b.stations b.left b.right b.limit from to b.owner len route low high })
+  lightpaths_done {k} {at} {from} {to} {len} {route} {low} {high} now h q r ns sps e =
       let c : m ≡ length (reverse now.before) = omega (arith, now.counted, now.few, length-reverse now.before) in
       let x : RowsIn (routes_of (reverse now.before) []) len route low high = subst (λ (l : List (List ℕ)). RowsIn l len route low high) (sym (append-nil (map route_of (reverse now.before)))) now.in_rows in
       record {
         value = reverse now.before;
-        is = turned_done (λ x. lp ns sps) s start m (now.turned ns sps e) h;
-        within = now.within;
+        same = q;
+        is = rw r (turned_done (λ x. lp ns sps) s start m (now.turned ns sps e) h);
         held = rw (e, now.is_from, now.is_to, x.is_len, x.is_route, x.is_low, x.is_high, ← c);
       }
 
@@ -178,15 +179,15 @@ module _ (b : Book) (s : List ℕ) (start m : ℕ) where
               (omega (arith, now.counted, length-map lps route_of, ap (λ (x : Book). x.lightpaths) e)) (omega arith) refl h.short;
         }
 
-  pub alternatives_done : {k at : ℕ} {t : Tally} {owner len route low high : List ℕ} → AlternativesTurned k at t owner len route low high → m ≤ k
+  pub alternatives_done : {k at : ℕ} {t : Tally} {owner len route low high : List ℕ} → AlternativesTurned k at t owner len route low high → m ≤ k → {p : Place} → p.s.now ≡ s → p.at ≡ at
       → (ns : List Bool) (sps : List Span) (lps : List Lightpath) → b ≡ book_of (partly ns sps lps []) → every (λ x. lightpath_fits ns sps) [] lps ≡ true
-      → Reached s (each (al sps (map ends_of lps)) m [] s (drop start s)) (HoldsAll ns sps lps) (record { next = at; book = remade b.nodes b.spans b.lightpaths m b.stations b.left b.right b.limit b.from b.to owner len route low high })
-  alternatives_done {k} {at} now h ns sps lps e f =
+      → Reached s (each (al sps (map ends_of lps)) m [] s (drop start s)) (HoldsAll ns sps lps) (record { next = p; book = remade b.nodes b.spans b.lightpaths m b.stations b.left b.right b.limit b.from b.to owner len route low high })
+  alternatives_done {k} {at} now h q r ns sps lps e f =
       let c : m ≡ length (reverse now.before) = omega (arith, now.counted, now.few, length-reverse now.before) in
       let x = now.in_rows ns sps lps e f in
       record {
         value = reverse now.before;
-        is = turned_done (al sps (map ends_of lps)) s start m (now.turned ns sps lps e) h;
-        within = now.within;
+        same = q;
+        is = rw r (turned_done (al sps (map ends_of lps)) s start m (now.turned ns sps lps e) h);
         held = rw (e, now.is_owner, x.is_len, x.is_route, x.is_low, x.is_high, ← c);
       }

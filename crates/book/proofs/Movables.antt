@@ -8,15 +8,11 @@ use native.Mathlib.Omega.{arith}
 use native.Mathlib.Numerals.{add-one}
 use lib.ListN.{length, take}
 use lib.Dec.{ltb}
-use borrow.Author.Tests.{lt-ltb, le-ltb, ltb-true}
+use borrow.Author.Tests.{lt-ltb, ltb-true}
 use Rattle.book.specs.Moving.{last_is, with_more, with_new, with_one, gathered}
 use Rattle.book.specs.declared.choice.Movables.{Movables}
-use Rattle.book.proofs.Tests.{and_inv}
 
 module _ (w : Movables) (k : ℕ) where
-  pub last_some : last_is w k ≡ true → 0 < w.count
-  last_some e = ltb-true 0 w.count (and_inv {a = ltb 0 w.count} e).0
-
   pub with_last : last_is w k ≡ true → with_one w k ≡ with_more w
   unfolding with_one
   with_last e = rw e
@@ -24,10 +20,6 @@ module _ (w : Movables) (k : ℕ) where
   pub with_first : last_is w k ≡ false → w.count < 8 → with_one w k ≡ with_new w k
   unfolding with_one
   with_first e l = rw (e, lt-ltb w.count 8 l)
-
-  pub with_ninth : last_is w k ≡ false → 8 ≤ w.count → with_one w k ≡ w
-  unfolding with_one
-  with_ninth e l = rw (e, le-ltb w.count 8 l)
 
   pub with_few : w.count ≤ 8 → (with_one w k).count ≤ 8
   unfolding with_one

@@ -33,15 +33,6 @@ module _ (b : Book) (w : Movables) (c : Choice) where
     pub of_ws : length ws ≡ length ks
     pub of_ds : length ds ≡ length ks
 
-  pub moving_start : b.lightpaths ≤ 255 → length w.lightpath ≡ 8 → length w.more ≡ 8 → length c.digits ≡ 8 → Moving b b.lightpaths w.count w.lightpath w.more c.digits
-  moving_start f e g h = record {
-    kept = refl;
-    left = ap (λ (x : List ℕ). with_rows_of b (moved (rows_in b) b.lightpaths x w.more c.digits (rows_in b))) (sym (take_min w.count w.lightpath) ∙ ap (λ (n : ℕ). take (min w.count n) w.lightpath) e);
-    near = omega arith;
-    of_ws = g ∙ sym e;
-    of_ds = h ∙ sym e;
-  }
-
   pub moving_next : {new : Book} {first n m k x d : ℕ} {ks ls ws vs ds es : List ℕ} → Moving new first n ks ws ds → ks ≡ k ∷ ls → ws ≡ x ∷ vs → ds ≡ d ∷ es → m + 1 ≡ n → x ≤ 255
       → Moving (with_rows_of new (moved_row (rows_in b) (rows_in new) (min k 95) (row_of (min k 95) first d))) (first + x) m ls vs es
   moving_next {new} {first} {n} {m} {k} {x} {d} {ks} {ls} {ws} {vs} {ds} {es} h is_k is_x is_d is_n low =

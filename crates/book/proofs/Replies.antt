@@ -1,6 +1,6 @@
--- A reading from kind to kind: what is still to be read after each of them, and the reply that is made of a refusal or of the whole.
+-- A reading from kind to kind: what is still to be read after each of them, and the answer that is made of a refusal or of the whole.
 -- A refusal's bytes are the book from its place on, so the place is what stands before them.
-use Prim.Native.Nat.{ℕ, ◌-◌, ◌≤◌}
+use Prim.Native.Nat.{ℕ, ◌-◌}
 use mathlib.Core.Path.{◌≡◌, sym, ap, ◌∙◌}
 use mathlib.Core.List.{List, [], map}
 use mathlib.Core.Bool.{Bool, true, false}
@@ -16,7 +16,7 @@ use Rattle.book.specs.Reader.{Reader, ◌>>=◌, ◌>>◌, begun, need, each}
 use Rattle.book.specs.Book.{Span, Lightpath, RouteBook, some, ends_of, every, lightpath_fits}
 use Rattle.book.specs.Format.{hd, nd, sp, lp, al, book, reading}
 use Rattle.book.specs.Memory.{book_of, shown}
-use Rattle.book.specs.Inside.{Came, Halted, EndRead, Reached, counts_of, HoldsNodes, HoldsSpans, HoldsLightpaths, HoldsAll, partly, from_end}
+use Rattle.book.specs.Inside.{Came, Halted, EndRead, Reached, Told, counts_of, HoldsNodes, HoldsSpans, HoldsLightpaths, HoldsAll, partly, from_end}
 use Rattle.book.proofs.Faults.{fault_back}
 use Rattle.book.proofs.Steps.{halted_then}
 use Rattle.book.proofs.Readers.{Bytes}
@@ -75,18 +75,18 @@ module _ (s : List ℕ) where
     -- after the ND records, the SP records and the LP records: what the book holds, and what is left
     pub record NodesOn (f : Filled) : Type 0 where
       pub read : NodesRead f.book
-      pub within : f.next ≤ length s
-      pub left : Left (at_spans k.spans k.lightpaths k.alternatives read.ns) f.next
+      pub same : f.next.s.now ≡ s
+      pub left : Left (at_spans k.spans k.lightpaths k.alternatives read.ns) f.next.at
 
     pub record SpansOn (f : Filled) : Type 0 where
       pub read : SpansRead f.book
-      pub within : f.next ≤ length s
-      pub left : Left (at_lightpaths k.lightpaths k.alternatives read.ns read.sps) f.next
+      pub same : f.next.s.now ≡ s
+      pub left : Left (at_lightpaths k.lightpaths k.alternatives read.ns read.sps) f.next.at
 
     pub record LightpathsOn (f : Filled) : Type 0 where
       pub read : LightpathsRead f.book
-      pub within : f.next ≤ length s
-      pub left : Left (at_alternatives k.alternatives read.ns read.sps read.lps) f.next
+      pub same : f.next.s.now ≡ s
+      pub left : Left (at_alternatives k.alternatives read.ns read.sps read.lps) f.next.at
 
   pub head_stop : {r : Refusal} → Halted s (hd s s) r → Err r ≡ shown (reading s)
   unfolding reading book
@@ -104,55 +104,59 @@ module _ (s : List ℕ) where
       nodes_stop n = stopped headed (halted_then _ n)
 
       module _ {f : Filled} (n : Reached s (each (λ y. nd) k.nodes [] s (drop 6 s)) HoldsNodes f) where
-        pub nodes_none : f.book.stations ≡ 0 → Err (record { fault = NoStation; place = f.next }) ≡ shown (reading s)
+        pub nodes_none : f.book.stations ≡ 0 → Err (record { fault = NoStation; place = f.next.at }) ≡ shown (reading s)
         nodes_none e =
             let z : some n.value ≡ false = no_station n.value (sym (ap (λ (y : Book). y.stations) n.held) ∙ e) in
-            stopped headed (record { is = rw (n.is, z); within = n.within })
+            stopped headed (record { is = rw (n.is, z); within = rw (← n.same) f.next.within })
 
         pub nodes_on : (f.book.stations ≡ 0 → ⊥) → NodesOn k f
         nodes_on e =
             let z : some n.value ≡ true = some_station n.value (λ y. e (ap (λ (b : Book). b.stations) n.held ∙ y)) in
-            record { read = nodes_read s bytes 6 k.nodes k.few.0 n; within = n.within; left = record { is = headed.is ∙ rw (n.is, z) } }
+            record { read = nodes_read s bytes 6 k.nodes k.few.0 n; same = n.same; left = record { is = headed.is ∙ rw (n.is, z) } }
 
     module _ {f : Filled} (n : NodesOn k f) where
-      pub spans_stop : {r : Refusal} → ((ns : List Bool) → f.book ≡ book_of (partly ns [] [] []) → Halted s (each (λ y. sp (length ns)) k.spans [] s (drop f.next s)) r) → Err r ≡ shown (reading s)
-      spans_stop h = stopped n.left (halted_then _ (h n.read.ns n.read.is))
+      pub spans_stop : {r : Refusal} → ((ns : List Bool) → f.book ≡ book_of (partly ns [] [] []) → Told (Err r) f.next (each (λ y. sp (length ns)) k.spans []) (HoldsSpans ns)) → Err r ≡ shown (reading s)
+      spans_stop h = stopped n.left (halted_then _ (rw n.same at h n.read.ns n.read.is))
 
-      pub spans_on : {g : Filled} → ((ns : List Bool) → f.book ≡ book_of (partly ns [] [] []) → Reached s (each (λ y. sp (length ns)) k.spans [] s (drop f.next s)) (HoldsSpans ns) g) → SpansOn k g
-      spans_on h =
-          let x = h n.read.ns n.read.is in
-          record { read = spans_read s bytes f.next k.spans n.read k.few.1 x; within = x.within; left = record { is = n.left.is ∙ rw x.is } }
+      module _ {g : Filled} (h : (ns : List Bool) → f.book ≡ book_of (partly ns [] [] []) → Told (Ok g) f.next (each (λ y. sp (length ns)) k.spans []) (HoldsSpans ns)) where
+        all_spans : Reached s (each (λ y. sp (length n.read.ns)) k.spans [] s (drop f.next.at s)) (HoldsSpans n.read.ns) g
+        all_spans = rw n.same at h n.read.ns n.read.is
+
+        pub spans_on : SpansOn k g
+        spans_on =
+            record { read = spans_read s bytes f.next.at k.spans n.read k.few.1 all_spans; same = all_spans.same; left = record { is = n.left.is ∙ rw all_spans.is } }
 
     module _ {f : Filled} (n : SpansOn k f) where
-      pub lightpaths_stop : {r : Refusal} → ((ns : List Bool) (sps : List Span) → f.book ≡ book_of (partly ns sps [] []) → Halted s (each (λ y. lp ns sps) k.lightpaths [] s (drop f.next s)) r)
+      pub lightpaths_stop : {r : Refusal} → ((ns : List Bool) (sps : List Span) → f.book ≡ book_of (partly ns sps [] []) → Told (Err r) f.next (each (λ y. lp ns sps) k.lightpaths []) (HoldsLightpaths ns sps))
           → Err r ≡ shown (reading s)
-      lightpaths_stop h = stopped n.left (halted_then _ (h n.read.ns n.read.sps n.read.is))
+      lightpaths_stop h = stopped n.left (halted_then _ (rw n.same at h n.read.ns n.read.sps n.read.is))
 
-      pub lightpaths_on : {g : Filled} → ((ns : List Bool) (sps : List Span) → f.book ≡ book_of (partly ns sps [] []) → Reached s (each (λ y. lp ns sps) k.lightpaths [] s (drop f.next s)) (HoldsLightpaths ns sps) g)
-          → LightpathsOn k g
-      lightpaths_on h =
-          let x = h n.read.ns n.read.sps n.read.is in
-          record { read = lightpaths_read s bytes f.next k.lightpaths n.read k.few.2 x; within = x.within; left = record { is = n.left.is ∙ rw x.is } }
+      module _ {g : Filled} (h : (ns : List Bool) (sps : List Span) → f.book ≡ book_of (partly ns sps [] []) → Told (Ok g) f.next (each (λ y. lp ns sps) k.lightpaths []) (HoldsLightpaths ns sps)) where
+        all_lightpaths : Reached s (each (λ y. lp n.read.ns n.read.sps) k.lightpaths [] s (drop f.next.at s)) (HoldsLightpaths n.read.ns n.read.sps) g
+        all_lightpaths = rw n.same at h n.read.ns n.read.sps n.read.is
+
+        pub lightpaths_on : LightpathsOn k g
+        lightpaths_on =
+            record { read = lightpaths_read s bytes f.next.at k.lightpaths n.read k.few.2 all_lightpaths; same = all_lightpaths.same; left = record { is = n.left.is ∙ rw all_lightpaths.is } }
 
     module _ {f : Filled} (n : LightpathsOn k f) where
       pub alternatives_stop : {r : Refusal} → ((ns : List Bool) (sps : List Span) (lps : List Lightpath) → f.book ≡ book_of (partly ns sps lps []) → every (λ before. lightpath_fits ns sps) [] lps ≡ true
-          → Halted s (each (al sps (map ends_of lps)) k.alternatives [] s (drop f.next s)) r) → Err r ≡ shown (reading s)
-      alternatives_stop h = stopped n.left (halted_then _ (h n.read.ns n.read.sps n.read.lps n.read.is n.read.fit))
+          → Told (Err r) f.next (each (al sps (map ends_of lps)) k.alternatives []) (HoldsAll ns sps lps)) → Err r ≡ shown (reading s)
+      alternatives_stop h = stopped n.left (halted_then _ (rw n.same at h n.read.ns n.read.sps n.read.lps n.read.is n.read.fit))
 
       module _ {g : Filled} (h : (ns : List Bool) (sps : List Span) (lps : List Lightpath) → f.book ≡ book_of (partly ns sps lps []) → every (λ before. lightpath_fits ns sps) [] lps ≡ true
-          → Reached s (each (al sps (map ends_of lps)) k.alternatives [] s (drop f.next s)) (HoldsAll ns sps lps) g) where
-        last : Reached s (each (al n.read.sps (map ends_of n.read.lps)) k.alternatives [] s (drop f.next s)) (HoldsAll n.read.ns n.read.sps n.read.lps) g
-        last = h n.read.ns n.read.sps n.read.lps n.read.is n.read.fit
+          → Told (Ok g) f.next (each (al sps (map ends_of lps)) k.alternatives []) (HoldsAll ns sps lps)) where
+        last : Reached s (each (al n.read.sps (map ends_of n.read.lps)) k.alternatives [] s (drop f.next.at s)) (HoldsAll n.read.ns n.read.sps n.read.lps) g
+        last = rw n.same at h n.read.ns n.read.sps n.read.lps n.read.is n.read.fit
 
-        pub all_within : g.next ≤ length s
-        all_within = last.within
-
-        ended : Left (at_end (partly n.read.ns n.read.sps n.read.lps last.value)) g.next
+        ended : Left (at_end (partly n.read.ns n.read.sps n.read.lps last.value)) g.next.at
         ended = record { is = n.left.is ∙ rw last.is }
 
-        pub end_stop : {r : Refusal} → EndRead (Err r) s g.next → Err r ≡ shown (reading s)
-        end_stop e = stopped ended (e _)
+        pub end_stop : {r : Refusal} → EndRead (Err r) g.next.s.now g.next.at → Err r ≡ shown (reading s)
+        end_stop e = stopped ended (rw last.same at e _)
 
-        pub whole : EndRead (Ok tt) s g.next → Ok g.book ≡ shown (reading s)
+        pub whole : EndRead (Ok tt) g.next.s.now g.next.at → Ok g.book ≡ shown (reading s)
         unfolding reading
-        whole e = rw (ended.is, e _) (ap (λ (b : Book). Ok b) last.held)
+        whole e =
+            let z : EndRead (Ok tt) s g.next.at = rw last.same at e in
+            rw (ended.is, z _) (ap (λ (b : Book). Ok b) last.held)

@@ -79,11 +79,6 @@ rewriting s n {old} {new} h e told =
 pub new_held : {s : List ℕ} {n : ℕ} {old new : Book} → Rewriting s n old new → Held new
 new_held {n = n} h = record { book = chosen h.book n; is = h.new_is; fits = h.new_fits }
 
--- a refusal of what is read, and then of the choice, is handed on with the buffer as it was
-pub read_refused : (g : Reading) (n : ℕ) {r : Refusal} → ◌≡◌ {A = Result Book Refusal} (Err r) (shown g) → ◌≡◌ {A = Result Book Refusal} (Err r) (shown (chosen_of g n))
-read_refused (good m) n e = absurd (cc)
-read_refused (refused k p) n e = e
-
 pub refused_on : (g : Reading) (d : List ℕ) {r : Refusal} → ◌≡◌ {A = Result Book Refusal} (Err r) (shown g) → (Err r ≡ written_of (fitted_of (length d) g)) × (d ≡ buffer (fitted_of (length d) g) d)
 refused_on (good m) d e = absurd (cc)
 refused_on (refused k p) d {r} e = let same : r ≡ refusal k p = cc in (ap Err same, refl)

@@ -1,17 +1,21 @@
 -- One step of a reading, as the code makes it and as the reader has it: what is refused in a part is refused in the whole, and what a part gave
 -- is handed on. Every record starts alike, so the mark and the fixed fields are dealt with once, test by test.
 use Prim.Native.Nat.{ℕ, ◌+◌, ◌-◌, ◌≤◌, ◌<◌}
-use mathlib.Core.Path.{◌≡◌, ap, ◌∙◌, subst}
-use mathlib.Core.List.{List}
+use mathlib.Core.Path.{◌≡◌, refl, sym, ap, ◌∙◌, subst}
+use mathlib.Core.List.{List, [], ◌∷◌}
+use mathlib.Core.Bool.{Bool, true, false, ◌&&◌, false≢true}
 use native.Mathlib.Omega.{arith}
-use lib.ListN.{length, get_or, take, drop, length-drop}
-use lib.Seq.{get_or-take, drop-drop, take_all}
-use borrow.Author.Tests.{le-leb, lt-leb, eq-eqb, ne_eqb}
+use lib.ListN.{length, take, drop, length-drop}
+use lib.Seq.{drop-drop, take_all}
+use lib.Dec.{eqb}
+use borrow.Author.Tests.{le-leb, lt-leb, eqb-true, eq-eqb, ne_eqb}
+use Rattle.std.specs.Prelude.{slice_index}
+use Rattle.std.specs.List.{starts_with}
 use Rattle.book.specs.declared.refusal.Fault.{Fault}
 use Rattle.book.specs.declared.refusal.Fault.TheVariants.{CutShort, WrongMark}
 use Rattle.book.specs.declared.refusal.Refusal.{Refusal}
 use Rattle.book.specs.Memory.{fault_number}
-use Rattle.book.specs.Reader.{Got, got, bad, and_then, fields, Mark, opened}
+use Rattle.book.specs.Reader.{Got, got, bad, and_then, fields, Mark, is_mark, opened}
 use Rattle.book.specs.Inside.{Came, Halted}
 
 module _ {A B : Type 0} {s : List ℕ} {g : Got A} (k : A → List ℕ → Got B) where
@@ -25,8 +29,35 @@ part s at = take_all (length s - at) (drop at s) (omega (arith, length-drop at s
 pub lent : (s : List ℕ) (a n : ℕ) → take (a + n - a) (drop a s) ≡ take n (drop a s)
 lent s a n = let e : a + n - a ≡ n = omega arith in rw e
 
+-- whether bytes begin with the two of a mark w, as the code tests it and as the reader does
+eqb_turned : (a b : ℕ) → eqb a b ≡ eqb b a
+eqb_turned a b = go (eqb a b) refl
+  where
+    go : (t : Bool) → eqb a b ≡ t → eqb a b ≡ eqb b a
+    go true e = e ∙ sym (eq-eqb b a (sym (eqb-true a b e)))
+    go false e = e ∙ sym (ne_eqb b a (λ q. false≢true (sym e ∙ eq-eqb a b (sym q))))
+
+both : (a b : Bool) → (a && (b && true)) ≡ (a && b)
+both true true = refl
+both true false = refl
+both false b = refl
+
+abbrev pub mark_of : List ℕ → Mark
+mark_of w = record { one = slice_index w 0; two = slice_index w 1 }
+
+pub begins : (w d : List ℕ) → length w ≡ 2 → 2 ≤ length d → starts_with eqb d w ≡ is_mark (mark_of w) (take 2 d)
+begins (a ∷ b ∷ []) (x ∷ y ∷ d) e l = rw (eqb_turned a x, eqb_turned b y) (both (eqb x a) (eqb y b))
+begins (a ∷ b ∷ []) (x ∷ []) e l = absurd (omega arith)
+begins (a ∷ b ∷ []) [] e l = absurd (omega arith)
+begins (a ∷ b ∷ c ∷ w) d e l = absurd (omega arith)
+begins (a ∷ []) d e l = absurd (omega arith)
+begins [] d e l = absurd (omega arith)
+
 -- the mark and the k fixed fields of the record at `at`, from which on d is lent
-module _ (m : Mark) (k : ℕ) (s : List ℕ) (at : ℕ) (here : at ≤ length s) where
+module _ (w : List ℕ) (k : ℕ) (s : List ℕ) (at : ℕ) (here : at ≤ length s) where
+  abbrev m : Mark
+  m = mark_of w
+
   abbrev d : List ℕ
   d = take (length s - at) (drop at s)
 
@@ -40,20 +71,15 @@ module _ (m : Mark) (k : ℕ) (s : List ℕ) (at : ℕ) (here : at ≤ length s)
   unfolding opened
   opened_short l = refused CutShort (rw (lt-leb 2 (length d) l))
 
-  module _ (l : 2 ≤ length d) where
-    pub opened_unlike : (get_or d 0 0 ≡ m.one → ⊥) → Refused WrongMark
+  module _ (two : length w ≡ 2) (l : 2 ≤ length d) where
+    pub opened_unlike : false ≡ starts_with eqb d w → Refused WrongMark
     unfolding opened
-    opened_unlike h = refused WrongMark (rw (le-leb 2 (length d) l, get_or-take 2 d 0 0 (omega arith), ne_eqb (get_or d 0 0) m.one h))
+    opened_unlike h = refused WrongMark (rw (le-leb 2 (length d) l, sym (h ∙ begins w d two l)))
 
-    pub opened_unlike2 : get_or d 0 0 ≡ m.one → (get_or d 1 0 ≡ m.two → ⊥) → Refused WrongMark
-    unfolding opened
-    opened_unlike2 e h =
-        refused WrongMark (rw (le-leb 2 (length d) l, get_or-take 2 d 0 0 (omega arith), get_or-take 2 d 1 0 (omega arith), eq-eqb (get_or d 0 0) m.one e, ne_eqb (get_or d 1 0) m.two h))
-
-    module _ (e : get_or d 0 0 ≡ m.one) (f : get_or d 1 0 ≡ m.two) where
+    module _ (h : true ≡ starts_with eqb d w) where
       opened_marked : opened m k d d ≡ fields k d (drop 2 d)
       unfolding opened
-      opened_marked = rw (le-leb 2 (length d) l, get_or-take 2 d 0 0 (omega arith), get_or-take 2 d 1 0 (omega arith), eq-eqb (get_or d 0 0) m.one e, eq-eqb (get_or d 1 0) m.two f)
+      opened_marked = rw (le-leb 2 (length d) l, sym (h ∙ begins w d two l))
 
       pub opened_torn : length d < 2 + k → Refused CutShort
       opened_torn h = refused CutShort (opened_marked ∙ rw (lt-leb k (length (drop 2 d)) (omega (arith, length-drop 2 d))))

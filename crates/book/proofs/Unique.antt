@@ -1,5 +1,5 @@
--- What the promises leave open: nothing. Every string of bytes is one good book or has one fault, never both, and the reply is told by that.
--- The reply is an equation, so two replies that meet it are equal; the law of the format and the rows of the table say what it means.
+-- What the promises leave open: nothing. Every string of bytes is one good book or has one fault, never both, and the answer is told by that.
+-- The answer is an equation, so two answers that meet it are equal; the law of the format and the rows of the table say what it means.
 use Prim.Native.Nat.{ℕ, ◌≤◌}
 use mathlib.Core.Path.{◌≡◌, refl, sym, ap, ◌∙◌}
 use mathlib.Core.List.{List}

@@ -82,10 +82,6 @@ pub below_stop : (n : ℕ) (r : List ℕ) (j : ℕ) → j < length r → n ≤ g
 unfolding below
 below_stop n r j l h = rw (route_cons r j l, le-ltb (get_or r j 0) n h)
 
-pub below_none : (n : ℕ) (r : List ℕ) (j : ℕ) → length r ≤ j → below n (drop j r) ≡ true
-unfolding below
-below_none n r j l = rw (drop_of_length-le r {i = j} l)
-
 pub high_more : (n : ℕ) (r : List ℕ) (j : ℕ) → j < length r → get_or r j 0 < n → from_high n (drop j r) ≡ from_high n (drop (j + 1) r)
 unfolding from_high
 high_more n r j l h = rw (route_cons r j l, lt-ltb (get_or r j 0) n h)

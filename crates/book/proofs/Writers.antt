@@ -111,12 +111,6 @@ module _ {b : Book} (h : Held b) where
   pub held_short : (k : ℕ) → k < b.lightpaths → get_or b.len k 0 ≤ 16
   held_short k l = let w = within h.book h.is l in rw (h.is, len_here h.book k w) (short_here h.book h.fits k w)
 
-  pub held_reach : (k : ℕ) → k < b.lightpaths → 16 * k + get_or b.len k 0 ≤ length b.route
-  held_reach k l =
-      let rs = routes_of h.book.lightpaths h.book.alternatives in
-      let n : length h.book.lightpaths ≤ length rs = omega (arith, length-append (map route_of h.book.lightpaths) (map alt_route h.book.alternatives), length-map h.book.lightpaths route_of) in
-      omega (arith, held_short k l, within h.book h.is l, n, rows_held 2432 16 rs, ap (λ (x : Book). length x.route) h.is)
-
 -- the records of the first k lightpaths are laid from the place `at` on, up to `place`, in whichever book is held
 module _ (b : Book) (d : List ℕ) (at : ℕ) where
   pub record Put (out : List ℕ) (k place : ℕ) (m : RouteBook) : Type 0 where
@@ -157,8 +151,3 @@ module _ (b : Book) (d : List ℕ) (at : ℕ) where
           reached = omega (arith, reached, ap length bytes, ap length more, length-append before p);
           laid_so_far = (λ i. laid ((now m e f).laid_so_far i) (reached i) (bytes i)) ∙ laid_then d at before p room ∙ ap (laid d at) (sym more);
         }
-
-  pub putting_done : {out : List ℕ} {k place : ℕ} → Putting out k place → b.lightpaths ≤ k → (m : RouteBook) → b ≡ book_of m → well_formed m ≡ true → out ≡ laid d at (bytes_of lp_bytes m.lightpaths)
-  putting_done {out} {k} {place} now l m e f =
-      let all : take k m.lightpaths ≡ m.lightpaths = take_all k m.lightpaths (omega (arith, l, ap (λ (x : Book). x.lightpaths) e)) in
-      (now m e f).laid_so_far ∙ ap (λ (ps : List Lightpath). laid d at (bytes_of lp_bytes ps)) all

@@ -7,13 +7,13 @@ use mathlib.Core.Bool.{true}
 use borrow.Author.Tests.{lt-ltb, le-ltb}
 use Rattle.book.specs.Book.{RouteBook, well_formed}
 use Rattle.book.specs.Format.{encode, Reading, good, refused, reading}
-use Rattle.book.specs.Memory.{book_of, refusal, shown}
+use Rattle.book.specs.Memory.{book_of, shown}
 use Rattle.book.specs.Choice.{sizes, choices, product, digits, chosen}
 use Rattle.book.specs.Moving.{movables_of, movables_in, sizes_in, choice_in, chosen_in}
 use Rattle.book.specs.Writing.{chosen_of}
 use Rattle.book.specs.declared.Book.{Book}
 use Rattle.book.specs.declared.refusal.Refusal.{Refusal}
-use Rattle.std.specs.Prelude.{Result, Ok, Err}
+use Rattle.std.specs.Prelude.{Result, Ok}
 use Rattle.book.proofs.Readers.{Bytes}
 use Rattle.book.proofs.Format.{reading_only}
 use Rattle.book.proofs.Numbering.{digits_valid}
@@ -53,16 +53,6 @@ pub record Holds (g : Reading) (b : Book) : Type 0 where
 pub ok_holds : (g : Reading) {b : Book} → ◌≡◌ {A = Result Book Refusal} (Ok b) (shown g) → Holds g b
 ok_holds (good m) e = record { book = m; is = refl; held = cc }
 ok_holds (refused k p) e = absurd (cc)
-
-pub record Refuses (g : Reading) (e : Refusal) : Type 0 where
-  pub number : ℕ
-  pub place : ℕ
-  pub is : g ≡ refused number place
-  pub same : e ≡ refusal number place
-
-pub err_refuses : (g : Reading) {r : Refusal} → ◌≡◌ {A = Result Book Refusal} (Err r) (shown g) → Refuses g r
-err_refuses (good m) e = absurd (cc)
-err_refuses (refused k p) e = record { number = k; place = p; is = refl; same = cc }
 
 -- the struct b holds the good book m, whose bytes are s; and it is what the bytes read as
 pub record ReadAs (s : List ℕ) (b : Book) (m : RouteBook) : Type 0 where

@@ -9,6 +9,7 @@ use Rattle.book.specs.Memory.{book_of, laid, fault_number}
 use Rattle.std.specs.List.{sum_by}
 use Rattle.book.specs.declared.Book.{Book}
 use Rattle.book.specs.declared.refusal.Refusal.{Refusal}
+use Rattle.book.specs.declared.place.Place.{Place}
 use Rattle.book.specs.declared.fill.Filled.{Filled}
 use Rattle.book.specs.declared.row.Words.{Words}
 use Rattle.book.specs.declared.row.Rows.{Rows}
@@ -174,16 +175,16 @@ words_into low high x = record { low = put_if (eqb (x / 64) 0) low (x % 64); hig
 abbrev pub with_row : Rows → ℕ → List ℕ → Rows
 with_row x k r = record { len = set x.len k (length r); route = laid x.route (16 * k) r; low = set x.low k (span_word 0 r); high = set x.high k (span_word 1 r) }
 
--- what the answer of a function that reads all records of a kind says of their reading g: the place of what is due next, and a book that holds them
+-- what the answer of a function that reads all records of a kind, from the place p on, says of their reader q: the place of what is due next, in the same bytes, and a book that holds them
 pub record Reached {A : Type 0} (s : List ℕ) (g : Got A) (holds : A → Book → Type 0) (f : Filled) : Type 0 where
   pub value : A
-  pub is : g ≡ got value (drop f.next s)
-  pub within : f.next ≤ length s
+  pub same : f.next.s.now ≡ s
+  pub is : g ≡ got value (drop f.next.at s)
   pub held : holds value f.book
 
-abbrev pub Told : {A : Type 0} → Result Filled Refusal → List ℕ → Got A → (A → Book → Type 0) → Type 0
-Told (Ok f) s g holds = Reached s g holds f
-Told (Err r) s g holds = Halted s g r
+abbrev pub Told : {A : Type 0} → Result Filled Refusal → Place → Reader A → (A → Book → Type 0) → Type 0
+Told (Ok f) p q holds = Reached p.s.now (q p.s.now (drop p.at p.s.now)) holds f
+Told (Err r) p q holds = Halted p.s.now (q p.s.now (drop p.at p.s.now)) r
 
 -- the book b holds m; and m is what was read so far
 abbrev pub HoldsBook : RouteBook → Book → Type 0

@@ -22,7 +22,7 @@ const MOST_LIGHTPATHS: usize = 96;
 
 const MOST_ROUTES: usize = 152;
 
-const LONGEST_ROUTE: usize = 16;
+pub(crate) const LONGEST_ROUTE: usize = 16;
 
 // The movable lightpaths of a book in rising order, and how many alternatives each has; noughts beyond the count.
 // It has no ghost field: its fields are public, and docs/BOOK.md, section 10, says what comes of a struct that no book has.

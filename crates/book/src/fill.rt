@@ -1,5 +1,5 @@
 // The records of each kind, read in a loop into a book that holds what was read before them.
-ghost use Rattle.std.specs.Prelude.{◌≡◌, List, [], map, Bool, true, ◌+◌, ◌≤◌, ◌<◌, length, drop};
+ghost use Rattle.std.specs.Prelude.{◌≡◌, List, [], map, Bool, true, ◌≤◌, length};
 ghost use Rattle.book.specs.Reader.{each};
 ghost use Rattle.book.specs.Book.{Span, Lightpath, ends_of, every, lightpath_fits};
 ghost use Rattle.book.specs.Format.{nd, sp, lp, al};
@@ -7,6 +7,7 @@ ghost use Rattle.book.specs.Memory.{book_of, empty_book};
 ghost use Rattle.book.specs.Inside.{Told, HoldsNodes, HoldsSpans, HoldsLightpaths, HoldsAll, partly, SpansHeld, LightpathsHeld};
 
 use crate::network::Network;
+use crate::place::Place;
 use crate::record::Tally;
 use crate::refusal::Refusal;
 use crate::row::Rows;
@@ -14,8 +15,8 @@ use crate::{Book, record, set};
 
 // After the records of a kind: the place of what is due next, and the book with them.
 #[derive(Clone, Copy)]
-pub(crate) struct Filled {
-    pub next: usize,
+pub(crate) struct Filled<'a> {
+    pub next: Place<'a>,
     pub book: Book,
 }
 
@@ -43,14 +44,14 @@ fn empty() -> Book
 }
 
 // The ND records: their number and the set of stations.
-pub(crate) fn with_nodes(s: &[u8], at: usize, count: u8) -> Result<Filled, Refusal>
-    requires { (at ≤ length s.now) × (count ≤ 64) }
-    ensures { Told result s.now (each (λ before. nd) count [] s.now (drop at s.now)) HoldsNodes }
+pub(crate) fn with_nodes(here: Place<'_>, count: u8) -> Result<Filled<'_>, Refusal>
+    requires { count ≤ 64 }
+    ensures { Told result here.entry (each (λ before. nd) count []) HoldsNodes }
 {
+    let Place { s, at: mut next } = here;
     let mut stations: u64 = 0;
-    let mut next = at;
     for k in 0..count {
-        let station = record::nd(s, next)?;
+        let station = record::nd(Place { s, at: next })?;
         stations = set::put_if(station, stations, k);
         next += 3;
     }
@@ -59,21 +60,23 @@ pub(crate) fn with_nodes(s: &[u8], at: usize, count: u8) -> Result<Filled, Refus
         stations,
         ..empty()
     };
+    let next = Place { s, at: next };
     Ok(Filled { next, book })
 }
 
 // The SP records: ends and limits.
-pub(crate) fn with_spans(s: &[u8], so_far: Filled, count: u8) -> Result<Filled, Refusal>
-    requires { (so_far.next ≤ length s.now) × (count ≤ 128) }
-    ensures { (ns : List Bool) → so_far.book ≡ book_of (partly ns [] [] [])
-        → Told result s.now (each (λ before. sp (length ns)) count [] s.now (drop so_far.next s.now)) (HoldsSpans ns) }
+pub(crate) fn with_spans(so_far: Filled<'_>, count: u8) -> Result<Filled<'_>, Refusal>
+    requires { count ≤ 128 }
+    ensures { (ns : List Bool) → so_far.entry.book ≡ book_of (partly ns [] [] [])
+        → Told result so_far.entry.next (each (λ before. sp (length ns)) count []) (HoldsSpans ns) }
 {
-    let Filled { mut next, book: b } = so_far;
+    let Place { s, at: mut next } = so_far.next;
+    let b = so_far.book;
     let mut left = [0u8; 128];
     let mut right = [0u8; 128];
     let mut limit = [0u8; 128];
     for k in 0..count as usize {
-        let span = record::sp(s, next, b.nodes)?;
+        let span = record::sp(Place { s, at: next }, b.nodes)?;
         left[k] = span.left;
         right[k] = span.right;
         limit[k] = span.limit;
@@ -86,16 +89,18 @@ pub(crate) fn with_spans(s: &[u8], so_far: Filled, count: u8) -> Result<Filled, 
         limit,
         ..b
     };
+    let next = Place { s, at: next };
     Ok(Filled { next, book })
 }
 
 // The LP records: ends, and routes in the first rows.
-pub(crate) fn with_lightpaths(s: &[u8], so_far: Filled, count: u8) -> Result<Filled, Refusal>
-    requires { (so_far.next ≤ length s.now) × (count ≤ 96) × SpansHeld so_far.book }
-    ensures { (ns : List Bool) (sps : List Span) → so_far.book ≡ book_of (partly ns sps [] [])
-        → Told result s.now (each (λ before. lp ns sps) count [] s.now (drop so_far.next s.now)) (HoldsLightpaths ns sps) }
+pub(crate) fn with_lightpaths(so_far: Filled<'_>, count: u8) -> Result<Filled<'_>, Refusal>
+    requires { (count ≤ 96) × SpansHeld so_far.book }
+    ensures { (ns : List Bool) (sps : List Span) → so_far.entry.book ≡ book_of (partly ns sps [] [])
+        → Told result so_far.entry.next (each (λ before. lp ns sps) count []) (HoldsLightpaths ns sps) }
 {
-    let Filled { mut next, book: b } = so_far;
+    let Place { s, at: mut next } = so_far.next;
+    let b = so_far.book;
     let mut from = [0u8; 96];
     let mut to = [0u8; 96];
     let mut rows = Rows {
@@ -106,7 +111,7 @@ pub(crate) fn with_lightpaths(s: &[u8], so_far: Filled, count: u8) -> Result<Fil
     };
     let network = Network { book: &b };
     for k in 0..count as usize {
-        let lightpath = record::lp(s, next, network)?;
+        let lightpath = record::lp(Place { s, at: next }, network)?;
         from[k] = lightpath.ends.from;
         to[k] = lightpath.ends.to;
         rows.put(k, lightpath.route);
@@ -122,16 +127,18 @@ pub(crate) fn with_lightpaths(s: &[u8], so_far: Filled, count: u8) -> Result<Fil
         high: rows.high,
         ..b
     };
+    let next = Place { s, at: next };
     Ok(Filled { next, book })
 }
 
 // The AL records: their lightpaths, and routes in the rows after those of the LP records.
-pub(crate) fn with_alternatives(s: &[u8], so_far: Filled, count: u8) -> Result<Filled, Refusal>
-    requires { (so_far.next ≤ length s.now) × (count ≤ 56) × LightpathsHeld so_far.book }
-    ensures { (ns : List Bool) (sps : List Span) (lps : List Lightpath) → so_far.book ≡ book_of (partly ns sps lps []) → every (λ before. lightpath_fits ns sps) [] lps ≡ true
-        → Told result s.now (each (al sps (map ends_of lps)) count [] s.now (drop so_far.next s.now)) (HoldsAll ns sps lps) }
+pub(crate) fn with_alternatives(so_far: Filled<'_>, count: u8) -> Result<Filled<'_>, Refusal>
+    requires { (count ≤ 56) × LightpathsHeld so_far.book }
+    ensures { (ns : List Bool) (sps : List Span) (lps : List Lightpath) → so_far.entry.book ≡ book_of (partly ns sps lps []) → every (λ before. lightpath_fits ns sps) [] lps ≡ true
+        → Told result so_far.entry.next (each (al sps (map ends_of lps)) count []) (HoldsAll ns sps lps) }
 {
-    let Filled { mut next, book: b } = so_far;
+    let Place { s, at: mut next } = so_far.next;
+    let b = so_far.book;
     let first = b.lightpaths as usize;
     let mut owner = [0u8; 56];
     let mut rows = Rows {
@@ -146,7 +153,7 @@ pub(crate) fn with_alternatives(s: &[u8], so_far: Filled, count: u8) -> Result<F
         different: 0,
     };
     for k in 0..count as usize {
-        let alternative = record::al(s, next, tally, &b)?;
+        let alternative = record::al(Place { s, at: next }, tally, &b)?;
         tally = tally.with(alternative.lightpath);
         owner[k] = alternative.lightpath;
         rows.put(first + k, alternative.route);
@@ -161,5 +168,6 @@ pub(crate) fn with_alternatives(s: &[u8], so_far: Filled, count: u8) -> Result<F
         high: rows.high,
         ..b
     };
+    let next = Place { s, at: next };
     Ok(Filled { next, book })
 }

@@ -7,6 +7,7 @@ mod copy;
 mod counts;
 mod fill;
 mod network;
+mod place;
 mod record;
 pub mod refusal;
 mod row;
@@ -18,6 +19,7 @@ ghost use Rattle.std.specs.Prelude.{◌≡◌};
 ghost use Rattle.book.specs.Format.{reading};
 ghost use Rattle.book.specs.Memory.{shown};
 
+use place::Place;
 use refusal::{Fault, Refusal};
 
 // A book that was read: counts, the set of stations, and one array a field, each its list and then noughts. Row k of `route` has 16 places; the
@@ -47,13 +49,13 @@ pub fn read(s: &[u8]) -> Result<Book, Refusal>
     ensures { result ≡ shown (reading s.now) }
 {
     let counts = record::hd(s)?;
-    let nodes = fill::with_nodes(s, 6, counts.nodes)?;
+    let nodes = fill::with_nodes(Place { s, at: 6 }, counts.nodes)?;
     if nodes.book.stations == 0 {
-        return Err(Fault::NoStation.at(nodes.next));
+        return Err(Fault::NoStation.at(nodes.next.at));
     }
-    let spans = fill::with_spans(s, nodes, counts.spans)?;
-    let lightpaths = fill::with_lightpaths(s, spans, counts.lightpaths)?;
-    let all = fill::with_alternatives(s, lightpaths, counts.alternatives)?;
-    record::en(s, all.next)?;
+    let spans = fill::with_spans(nodes, counts.spans)?;
+    let lightpaths = fill::with_lightpaths(spans, counts.lightpaths)?;
+    let all = fill::with_alternatives(lightpaths, counts.alternatives)?;
+    record::en(all.next)?;
     Ok(all.book)
 }

@@ -1,6 +1,6 @@
-// The records of a book, one at a time. Each function is given the whole book and the place of its record, and answers what the record says, or
+// The records of a book, one at a time. Each function is given the place of its record in the whole book, and answers what the record says, or
 // the refusal of the record's first fault.
-ghost use Rattle.std.specs.Prelude.{◌≡◌, cond, ◌+◌, ◌≤◌, ◌<◌, length, eqb, IfOk, slice_index};
+ghost use Rattle.std.specs.Prelude.{◌≡◌, ◌+◌, ◌≤◌, ◌<◌, length, IfOk, slice_index};
 ghost use Rattle.book.specs.Reader.{opened};
 ghost use Rattle.book.specs.Book.{counts_fit, span_ends, length_fits};
 ghost use Rattle.book.specs.Format.{hd, nd, sp};
@@ -8,20 +8,22 @@ ghost use Rattle.book.specs.Inside.{Reads, counts_of, span_of, LightpathsHeld, e
 
 use crate::counts::Counts;
 use crate::network::Network;
+use crate::place::Place;
 use crate::refusal::{Fault, Refusal};
 use crate::{Book, set, walk};
 
 // The mark of two bytes that is due, then k fixed fields, which are handed back.
-fn opened<'a>(s: &'a [u8], at: usize, mark: &[u8; 2], k: usize) -> Result<&'a [u8], Refusal>
-    requires { (at ≤ length s.now) × (k < 16) }
-    ensures told { Reads result s.now at (opened (record { one = slice_index mark.now 0; two = slice_index mark.now 1 }) k) (2 + k) (λ v. v.now) }
+fn opened<'a>(here: Place<'a>, mark: &[u8; 2], k: usize) -> Result<&'a [u8], Refusal>
+    requires { k < 16 }
+    ensures told { Reads result here.entry.s.now here.entry.at (opened (record { one = slice_index mark.now 0; two = slice_index mark.now 1 }) k) (2 + k) (λ v. v.now) }
     ensures long { IfOk result (λ v. length v.now ≡ k) }
 {
+    let Place { s, at } = here;
     let d = &s[at..];
     if d.len() < 2 {
         return Err(Fault::CutShort.at(at));
     }
-    if d[0] != mark[0] || d[1] != mark[1] {
+    if !d.starts_with(mark) {
         return Err(Fault::WrongMark.at(at));
     }
     if d.len() < 2 + k {
@@ -41,7 +43,7 @@ fn counts_fit(nodes: u8, spans: u8, lightpaths: u8, alternatives: u8) -> bool
 pub(crate) fn hd(s: &[u8]) -> Result<Counts, Refusal>
     ensures { Reads result s.now 0 hd 6 counts_of }
 {
-    let v = opened(s, 0, b"HD", 4)?;
+    let v = opened(Place { s, at: 0 }, b"HD", 4)?;
     if !counts_fit(v[0], v[1], v[2], v[3]) {
         return Err(Fault::BadCounts.at(0));
     }
@@ -54,15 +56,14 @@ pub(crate) fn hd(s: &[u8]) -> Result<Counts, Refusal>
 }
 
 // ND: whether the node is a station.
-pub(crate) fn nd(s: &[u8], at: usize) -> Result<bool, Refusal>
-    requires { at ≤ length s.now }
-    ensures { Reads result s.now at nd 3 (λ t. t) }
+pub(crate) fn nd(here: Place<'_>) -> Result<bool, Refusal>
+    ensures { Reads result here.entry.s.now here.entry.at nd 3 (λ t. t) }
 {
-    let v = opened(s, at, b"ND", 1)?;
+    let v = opened(here, b"ND", 1)?;
     match v[0] {
         0 => Ok(false),
         1 => Ok(true),
-        _ => Err(Fault::BadField.at(at)),
+        _ => Err(Fault::BadField.at(here.at)),
     }
 }
 
@@ -82,13 +83,12 @@ fn span_ends(nodes: u8, a: u8, b: u8) -> bool
 }
 
 // SP, whose ends are different nodes.
-pub(crate) fn sp(s: &[u8], at: usize, nodes: u8) -> Result<Span, Refusal>
-    requires { at ≤ length s.now }
-    ensures { Reads result s.now at (sp nodes) 5 span_of }
+pub(crate) fn sp(here: Place<'_>, nodes: u8) -> Result<Span, Refusal>
+    ensures { Reads result here.entry.s.now here.entry.at (sp nodes) 5 span_of }
 {
-    let v = opened(s, at, b"SP", 3)?;
+    let v = opened(here, b"SP", 3)?;
     if !span_ends(nodes, v[0], v[1]) {
-        return Err(Fault::BadField.at(at));
+        return Err(Fault::BadField.at(here.at));
     }
     Ok(Span {
         left: v[0],
@@ -112,19 +112,19 @@ fn length_fits(len: u8) -> bool
     (1..=16).contains(&len)
 }
 
-// A route of `len` spans between two nodes, which begins at `start` in the record at `at`: its length, whether its bytes are there, its span
+// A route of `len` spans between two nodes, which begins at `start` in the record here: its length, whether its bytes are there, its span
 // numbers, its walk. The first two are faults of the record; the others, of a span.
 fn route<'a>(
-    s: &'a [u8],
-    at: usize,
+    here: Place<'a>,
     start: usize,
     len: u8,
     ends: Ends,
     network: Network,
 ) -> Result<&'a [u8], Refusal>
-    requires { (ends.from < 64) × (at ≤ length s.now) × (start ≤ length s.now) }
-    ensures { RouteRead result s.now at start len (ends_in ends) network.entry.book.now }
+    requires { (ends.from < 64) × (start ≤ length here.s.now) }
+    ensures { RouteRead result here.entry.s.now here.entry.at start len (ends_in ends) network.entry.book.now }
 {
+    let Place { s, at } = here;
     if !length_fits(len) {
         return Err(Fault::BadLength.at(at));
     }
@@ -162,23 +162,23 @@ pub(crate) struct Lightpath<'a> {
 }
 
 // LP, whose ends are different stations, which its route joins.
-pub(crate) fn lp<'a>(s: &'a [u8], at: usize, network: Network) -> Result<Lightpath<'a>, Refusal>
-    requires { at ≤ length s.now }
-    ensures { LpRead result s.now at network.entry.book.now }
+pub(crate) fn lp<'a>(here: Place<'a>, network: Network) -> Result<Lightpath<'a>, Refusal>
+    ensures { LpRead result here.entry.s.now here.entry.at network.entry.book.now }
 {
-    let v = opened(s, at, b"LP", 3)?;
+    let v = opened(here, b"LP", 3)?;
     let ends = Ends {
         from: v[0],
         to: v[1],
     };
     if !ends_fit(network, ends) {
-        return Err(Fault::BadField.at(at));
+        return Err(Fault::BadField.at(here.at));
     }
-    let route = route(s, at, at + 5, v[2], ends, network)?;
+    let route = route(here, here.at + 5, v[2], ends, network)?;
     Ok(Lightpath { ends, route })
 }
 
 // Of the alternatives so far: the last one's lightpath, how many are that lightpath's, and of how many lightpaths they are.
+// Before the first all three are 0. `last` is no Option, since no test asks whether there is one: no lightpath is below 0, and `same` is 0.
 #[derive(Clone, Copy)]
 pub(crate) struct Tally {
     pub last: u8,
@@ -223,34 +223,29 @@ pub(crate) struct Alternative<'a> {
 }
 
 // AL, which may follow those that are tallied; its route joins the ends of its lightpath.
-pub(crate) fn al<'a>(
-    s: &'a [u8],
-    at: usize,
-    tally: Tally,
-    book: &Book,
-) -> Result<Alternative<'a>, Refusal>
-    requires { (at ≤ length s.now) × LightpathsHeld book.now }
-    ensures { AlRead result s.now at tally book.now }
+pub(crate) fn al<'a>(here: Place<'a>, tally: Tally, book: &Book) -> Result<Alternative<'a>, Refusal>
+    requires { LightpathsHeld book.now }
+    ensures { AlRead result here.entry.s.now here.entry.at tally book.now }
 {
-    let v = opened(s, at, b"AL", 2)?;
+    let v = opened(here, b"AL", 2)?;
     let lightpath = v[0];
     if !tally.follows(book.lightpaths, lightpath) {
-        return Err(Fault::OutOfOrder.at(at));
+        return Err(Fault::OutOfOrder.at(here.at));
     }
     let ends = Ends {
         from: book.from[lightpath as usize],
         to: book.to[lightpath as usize],
     };
-    let route = route(s, at, at + 4, v[1], ends, Network { book })?;
+    let route = route(here, here.at + 4, v[1], ends, Network { book })?;
     Ok(Alternative { lightpath, route })
 }
 
 // EN is due, and then nothing.
-pub(crate) fn en(s: &[u8], at: usize) -> Result<(), Refusal>
-    requires { at ≤ length s.now }
-    ensures { EndRead result s.now at }
+pub(crate) fn en(here: Place<'_>) -> Result<(), Refusal>
+    ensures { EndRead result here.entry.s.now here.entry.at }
 {
-    opened(s, at, b"EN", 0)?;
+    opened(here, b"EN", 0)?;
+    let Place { s, at } = here;
     let end = at + 2;
     if end < s.len() {
         return Err(Fault::AfterEnd.at(end));

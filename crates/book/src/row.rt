@@ -32,7 +32,7 @@ fn words_of(route: &[u8]) -> Words
     w
 }
 
-// The rows of all routes so far: each route's length, its places, and its spans as a set.
+// The rows of all routes so far: each route's length, its places, and its spans as a set. One array a field, as in `Book`, into which they go as they stand.
 #[derive(Clone, Copy)]
 pub(crate) struct Rows {
     pub len: [u8; 152],

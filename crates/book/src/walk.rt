@@ -9,6 +9,7 @@ use crate::set;
 
 impl<'a> Network<'a> {
     // The node to which span x leads from the node p, if it has an end there and the other is not yet met.
+    // `node::other_end` and `Trail::by` of judgement make the same choice of an end, in one expression of two cases; here a third case leads nowhere.
     fn step_over(self, p: u8, met: u64, x: u8) -> Option<u8>
         requires { x < 128 }
         ensures { result ≡ hop_of self.entry.book.now.left self.entry.book.now.right met p x }

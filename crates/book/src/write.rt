@@ -6,12 +6,10 @@ ghost use Rattle.book.specs.Memory.{book_of, laid};
 ghost use Rattle.book.specs.Writing.{writing, written_of, buffer};
 ghost use Rattle.book.specs.Inside.{Held, lightpaths_len};
 
+use crate::choice::LONGEST_ROUTE;
 use crate::copy::put;
 use crate::refusal::{Fault, Refusal};
 use crate::{Book, choice};
-
-// As many spans has the longest route, and as many places a row.
-const LONGEST_ROUTE: usize = 16;
 
 // Writes one LP record at `at`: its mark, the ends of the lightpath, the length of its route, and the route.
 fn put_lp(out: &mut [u8], at: usize, from: u8, to: u8, route: &[u8])

@@ -25,14 +25,15 @@ pub enum Status {
     Refused = b'1' as isize,
 }
 
-// The numbers that Linux gives to three errors: an argument that is missing, a name that is too long, and bytes that are no text.
+// The numbers that Linux gives to three errors: an argument that is missing, a name that is too long, and bytes that are no text. The programs print the
+// system's words for them, which the library has for a number alone.
 const MISSING: i32 = 22;
 
 const TOO_LONG: i32 = 36;
 
 const NO_TEXT: i32 = 84;
 
-// Says something on the error output.
+// Says something on the error output. A name among the words need not be text, so no macro can write it.
 pub fn say(rt: &HostRuntime, words: &[u8]) {
     let _ = rt.stderr().write_all(words);
 }
@@ -66,10 +67,27 @@ fn again(why: Error) -> Result<(), Error> {
     }
 }
 
+// What comes of a read that fails: why it did, and how many bytes of the space had come before.
+#[derive(Clone, Copy)]
+pub struct Unread {
+    pub why: Error,
+    pub len: usize,
+}
+
+// Where nothing was read.
+impl From<Error> for Unread {
+    ghost from_gives = { λ why u. (u.why ≡ why) × (u.len ≡ 0) };
+
+    fn from(why: Error) -> Unread {
+        Unread { why, len: 0 }
+    }
+}
+
 // Reads until the input ends, a read fails, or the space is full: no later byte changes what is said of a book. Answers how many bytes came. A proved loop has to
 // end, and nothing says that the input does: so the turns are counted, to a number that no run comes to.
-fn read_whole<R: Read>(reader: &mut R, space: &mut [u8]) -> Result<usize, Error>
-    ensures { IfOk result (λ n. IsPrefixLen n space.new) }
+// The answers below are numbers of bytes, and not the bytes, since `read_file` promises a number that fits the space (docs/PROMISES.md).
+fn read_whole<R: Read>(reader: &mut R, space: &mut [u8]) -> Result<usize, Unread>
+    ensures { MatchResult result (λ n. IsPrefixLen n space.new) (λ u. IsPrefixLen u.len space.new) }
 {
     let mut len = 0;
     for turn in 0..u64::MAX {
@@ -80,10 +98,13 @@ fn read_whole<R: Read>(reader: &mut R, space: &mut [u8]) -> Result<usize, Error>
                     return Ok(len);
                 }
             }
-            Err(why) => again(why)?,
+            Err(why) => again(why).map_err(|why| Unread { why, len })?,
         }
     }
-    Err(Error::from(ErrorKind::TimedOut))
+    Err(Unread {
+        why: Error::from(ErrorKind::TimedOut),
+        len,
+    })
 }
 
 // Says that something cannot be read, and why.
@@ -132,31 +153,31 @@ pub fn create(rt: &HostRuntime, name: &[u8]) -> Result<File, Error>
 }
 
 // Reads the file that has the name.
-fn read_named(rt: &HostRuntime, name: &[u8], space: &mut [u8]) -> Result<usize, Error>
-    ensures { IfOk result (λ n. IsPrefixLen n space.new) }
+fn read_named(rt: &HostRuntime, name: &[u8], space: &mut [u8]) -> Result<usize, Unread>
+    ensures { MatchResult result (λ n. IsPrefixLen n space.new) (λ u. IsPrefixLen u.len space.new) }
 {
     let mut file = open_read(rt, name)?;
     read_whole(&mut file, space)
 }
 
 // Reads the file that argument i names, which the sentence about a failure calls `what`. Answers how many bytes came; or why none count, and has said so.
-pub fn read_file(rt: &HostRuntime, i: usize, what: &[u8], space: &mut [u8]) -> Result<usize, Error>
-    ensures { IfOk result (λ n. IsPrefixLen n space.new) }
+pub fn read_file(rt: &HostRuntime, i: usize, what: &[u8], space: &mut [u8]) -> Result<usize, Unread>
+    ensures { MatchResult result (λ n. IsPrefixLen n space.new) (λ u. IsPrefixLen u.len space.new) }
 {
     let mut name = [0u8; 4096];
     let k = argument(rt, i, &mut name).inspect_err(|why| cannot_read(rt, what, b"", *why))?;
     let name = &name[..k];
-    read_named(rt, name, space).inspect_err(|why| cannot_read(rt, what, name, *why))
+    read_named(rt, name, space).inspect_err(|u| cannot_read(rt, what, name, u.why))
 }
 
 // Reads standard input, as `read_file` reads a file.
-pub fn read_input(rt: &HostRuntime, space: &mut [u8]) -> Result<usize, Error>
-    ensures { IfOk result (λ n. IsPrefixLen n space.new) }
+pub fn read_input(rt: &HostRuntime, space: &mut [u8]) -> Result<usize, Unread>
+    ensures { MatchResult result (λ n. IsPrefixLen n space.new) (λ u. IsPrefixLen u.len space.new) }
 {
-    read_whole(&mut rt.stdin(), space).inspect_err(|why| fail(
+    read_whole(&mut rt.stdin(), space).inspect_err(|u| fail(
         rt,
         b"gristvalley: standard input cannot be read",
-        *why,
+        u.why,
     ))
 }
 
@@ -178,8 +199,7 @@ pub fn put<W: Write>(writer: &mut W, bytes: &[u8]) -> Result<(), Error>
     Err(Error::from(ErrorKind::TimedOut))
 }
 
-// Prints a text, all of it, or answers why that was not done. Of a text that says more than its struct has nothing is printed, so `as_bytes`, which gives what is
-// there, will not do.
+// Prints a text, all of it, or answers why that was not done. Of a text that says more than its struct has nothing is printed.
 fn print(rt: &HostRuntime, t: Text) -> Result<(), Error> {
     let bytes = t.bytes;
     let n = usize::from(t.len);
@@ -189,7 +209,7 @@ fn print(rt: &HostRuntime, t: Text) -> Result<(), Error> {
     put(&mut rt.stdout(), &bytes[..n])
 }
 
-// Tells the launcher the status of the call, as its byte.
+// Tells the launcher the status of the call, as its byte: any byte, since a narrower type would ask more of a caller.
 pub fn tell(status: u8) {
     io::write_all(STATUS, &[status]);
 }

@@ -1,10 +1,13 @@
 -- The nine numbers of an answer, and the slice that they are stored in: docs/FACE.md.
 use Rattle.std.specs.Prelude.{ℕ, Bool, cond, List, [], ◌∷◌, ◌++◌, length, drop, leb, Option, Result, Ok, Err}
 use Rattle.book.specs.Format.{Reading, good, refused}
-use Rattle.book.specs.Memory.{book_of, fault_number}
+use Rattle.book.specs.Memory.{book_of, fault_number, number_of, place_of}
+use Rattle.book.specs.Writing.{written_length}
 use Rattle.book.specs.declared.Book.{Book}
 use Rattle.book.specs.declared.refusal.Refusal.{Refusal}
-use Rattle.judgement.specs.Answers.{verdict_numbers}
+use Rattle.judgement.specs.Answers.{judged, judged_numbers, asked_numbers}
+use Rattle.judgement.specs.Sites.{closed_numbers}
+use Rattle.search.specs.Answers.{searched_numbers}
 use Rattle.judgement.specs.declared.Verdict.{Verdict}
 use Rattle.judgement.specs.declared.Verdict.TheVariants.{Over, Split, Cut, Okay}
 use Rattle.judgement.specs.declared.Judged.{Judged}
@@ -49,7 +52,7 @@ verdict_kind Okay = 4
 
 abbrev pub verdict_row : Verdict → ℕ → ℕ → List ℕ
 verdict_row v a b =
-    let n = verdict_numbers v a b in
+    let n = judged_numbers (Ok (judged v a b)) in
     verdict_kind v ∷ n.number ∷ n.place ∷ n.span ∷ n.load ∷ n.limit ∷ n.side ∷ n.f ∷ n.fc ∷ []
 
 -- F6, F7: the verdict and the score
@@ -67,32 +70,46 @@ abbrev pub contracted_row : Result Contracted Refusal → List ℕ
 contracted_row = answered_row contraction_row
 
 -- F12: what closing a node does: the node and the side
+abbrev pub site_kind : Option Down → ℕ
+site_kind (option.Some d) = 1
+site_kind option.None = 2
+
 abbrev pub site_row : Option Down → List ℕ
-site_row (option.Some d) = 1 ∷ 0 ∷ 0 ∷ d.node ∷ d.side ∷ 0 ∷ 0 ∷ 0 ∷ 0 ∷ []
-site_row option.None = 2 ∷ 0 ∷ 0 ∷ 0 ∷ 0 ∷ 0 ∷ 0 ∷ 0 ∷ 0 ∷ []
+site_row s =
+    let n = closed_numbers (Ok s) in
+    site_kind s ∷ n.number ∷ n.place ∷ n.node ∷ n.side ∷ 0 ∷ 0 ∷ 0 ∷ 0 ∷ []
 
 abbrev pub closed_row : Result (Option Down) Refusal → List ℕ
 closed_row = answered_row site_row
 
 -- F8, F13: the question about a span, and about a set of spans
 abbrev pub side_row : Asked → List ℕ
-side_row a = 1 ∷ 0 ∷ 0 ∷ a.side ∷ cond a.whole 1 0 ∷ 0 ∷ 0 ∷ 0 ∷ 0 ∷ []
+side_row a =
+    let n = asked_numbers (Ok a) in
+    1 ∷ n.number ∷ n.place ∷ n.side ∷ cond n.all 1 0 ∷ 0 ∷ 0 ∷ 0 ∷ 0 ∷ []
 
 abbrev pub asked_row : Result Asked Refusal → List ℕ
 asked_row = answered_row side_row
 
 -- F9: what was found
+abbrev pub finding_kind : Finding → ℕ
+finding_kind (Found n t) = 1
+finding_kind (None t) = 2
+finding_kind (More b t) = 3
+
 abbrev pub finding_row : Finding → List ℕ
-finding_row (Found n t) = 1 ∷ 0 ∷ 0 ∷ n ∷ 0 ∷ t ∷ 0 ∷ 0 ∷ 0 ∷ []
-finding_row (None t) = 2 ∷ 0 ∷ 0 ∷ 0 ∷ 0 ∷ t ∷ 0 ∷ 0 ∷ 0 ∷ []
-finding_row (More b t) = 3 ∷ 0 ∷ 0 ∷ 0 ∷ b ∷ t ∷ 0 ∷ 0 ∷ 0 ∷ []
+finding_row f =
+    let n = searched_numbers (Ok f) in
+    finding_kind f ∷ n.number ∷ n.place ∷ n.choice ∷ n.limit ∷ n.total ∷ 0 ∷ 0 ∷ 0 ∷ []
 
 abbrev pub searched_row : Result Finding Refusal → List ℕ
 searched_row = answered_row finding_row
 
 -- F10: the length of what was written
 abbrev pub length_row : ℕ → List ℕ
-length_row l = 1 ∷ 0 ∷ 0 ∷ l ∷ 0 ∷ 0 ∷ 0 ∷ 0 ∷ 0 ∷ []
+length_row l =
+    let a : Result ℕ Refusal = Ok l in
+    1 ∷ number_of a ∷ place_of a ∷ written_length a ∷ 0 ∷ 0 ∷ 0 ∷ 0 ∷ 0 ∷ []
 
 abbrev pub written_row : Result ℕ Refusal → List ℕ
 written_row = answered_row length_row

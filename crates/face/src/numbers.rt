@@ -8,7 +8,8 @@ use book::refusal::Refusal;
 use judgement::{Asked, Contracted, Down, Judged, Verdict};
 use search::Finding;
 
-// The numbers of an answer: a kind, the number and place of a refusal, and what the answer carries.
+// The numbers of an answer: a kind, the number and place of a refusal, and what the answer carries. The C interface wants numbers for kinds and refusals, and a
+// bool for the room (docs/FACE.md).
 pub(crate) type Row = [u64; 9];
 
 // What is told in nine numbers.

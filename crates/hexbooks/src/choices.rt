@@ -29,7 +29,7 @@ const SHORT: usize = 120;
 // The most choices of a book that are all tried.
 const FEW: u32 = 30;
 
-// The hex digit of a value.
+// The hex digit of a value. Crate `listing` has its like, private: this program looks at the libraries without it.
 fn letter(d: u8) -> u8
     requires { d < 16 }
 {

@@ -16,13 +16,13 @@ fn digit(b: u8) -> Option<u8>
 pub(crate) fn unhex(line: &[u8], space: &mut [u8]) -> Option<usize>
     ensures { IfSome result (λ n. n ≤ length space.new) }
 {
-    let mut n = 0;
-    for word in line.split(|b| *b == b' ') {
+    let n = line.split(|b| *b == b' ').count();
+    let bytes = space.get_mut(..n)?;
+    for (byte, word) in bytes.iter_mut().zip(line.split(|b| *b == b' ')) {
         let [high, low] = word else {
             return None;
         };
-        *space.get_mut(n)? = digit(*high)? * 16 + digit(*low)?;
-        n += 1;
+        *byte = digit(*high)? * 16 + digit(*low)?;
     }
     Some(n)
 }

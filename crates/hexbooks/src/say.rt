@@ -5,7 +5,7 @@ use book::refusal::Refusal;
 // The descriptor of standard output.
 pub(crate) const STDOUT_FILENO: i32 = 1;
 
-// Writes bytes to standard output.
+// Writes bytes to standard output, by the kit's `io`: nothing is done where a write fails.
 pub(crate) fn word(b: &[u8]) {
     io::write_all(STDOUT_FILENO, b);
 }

@@ -51,9 +51,6 @@ module _ (before r : List ℕ) where
     pub counted_past : 128 ≤ y → Counted before (take (j + 1) r) loads
     counted_past high = record { long = now.long; each = λ x q. omega (arith, now.each x q, same x (λ e. omega (arith, e))) }
 
-  pub counted_done : {j : ℕ} {loads : List ℕ} → length r ≤ j → Counted before (take j r) loads → Counted before r loads
-  counted_done {j} {loads} l now = subst (λ (s : List ℕ). Counted before s loads) (take_all j r l) now
-
 -- a row is no longer than a route can be
 row_short : (b : Book) (k : ℕ) → length (row_in b k) ≤ 16
 row_short b k = omega (arith, length-take (min (get_or b.len k 0) 16) (drop (16 * k) b.route))
@@ -89,12 +86,6 @@ module _ (b : Book) where
 
     pub tallied_room : b.lightpaths ≤ 96 → Room loads (row_in b k)
     tallied_room few = record { long = now.long; short = row_short b k; few = λ x. omega (arith, tallied_most x, now.few) }
-
-    pub tallied_done : b.lightpaths ≤ k → Loads b loads
-    tallied_done l = record {
-      long = now.long;
-      each = λ x q. let e : k ≡ b.lightpaths = omega (arith, now.few) in now.each x q ∙ ap (sum (λ i. count x (row_in b i))) e;
-    }
 
 -- the route of lightpath k fits, and so holds no span twice
 module _ (m : RouteBook) (fits : well_formed m ≡ true) where

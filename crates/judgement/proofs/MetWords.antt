@@ -163,20 +163,5 @@ module _ {b : Book} (h : Held b) where
     here : k < length h.book.lightpaths
     here = subst (λ (y : Book). k < y.lightpaths) h.is l
 
-    pub held_len : get_or b.len k 0 ≤ 16
-    held_len = rw h.is (omega (arith, len_here h.book k here, route_short h.book h.fits k here))
-
     pub held_route : below 128 (route_in b k) ≡ true
     held_route = rw h.is (route_low h.book h.fits k here)
-
--- the words one by one
-module _ (b : Book) where
-  pub met_by_none : MetBy b 0 (replicate 152 0)
-  met_by_none = record { long = length-replicate {A = ℕ} 152 0; each = λ k l. absurd (omega (arith, l)) }
-
-  pub met_by_more : {n : ℕ} {words : List ℕ} → MetBy b n words → n < 152 → {x : ℕ} → x ≡ met_of b n → MetBy b (n + 1) (set words n x)
-  met_by_more {n} {words} w q {x} e = record { long = length-set words n x ∙ w.long; each = λ k l. go k l (ℕ_discrete k n) }
-    where
-      go : (k : ℕ) → k < n + 1 → Dec (k ≡ n) → get_or (set words n x) k 0 ≡ met_of b k
-      go k l (yes y) = ap (λ (j : ℕ). get_or (set words n x) j 0) y ∙ get_or-set_same words n x 0 (omega (arith, q, w.long)) ∙ e ∙ ap (met_of b) (sym y)
-      go k l (no y) = get_or-set_other words n k x 0 y ∙ w.each k (omega (arith, l, y))

@@ -25,7 +25,7 @@ use Rattle.judgement.specs.Answers.{judged, judged_of, judged_numbers}
 use Rattle.judgement.specs.declared.Verdict.{Verdict}
 use Rattle.judgement.specs.declared.Verdict.TheVariants.{Over, Split, Cut, Okay}
 
--- a good book, as a reply holds it
+-- a good book, as an answer holds it
 pub record Opened (g : Reading) (b : Book) : Type 0 where
   pub book : RouteBook
   pub is : g ≡ good book

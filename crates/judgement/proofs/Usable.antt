@@ -25,13 +25,7 @@ use Rattle.judgement.proofs.Stations.{lowest_lt}
 
 -- the tests, one after another
 module _ (b : Book) where
-  pub too_many_lightpaths : 96 < b.lightpaths → false ≡ usable b
-  too_many_lightpaths h = rw (lt-ltb 96 b.lightpaths h)
-
   module _ (few : b.lightpaths ≤ 96) where
-    pub too_many_spans : 128 < b.spans → false ≡ usable b
-    too_many_spans h = rw (le-ltb 96 b.lightpaths few, lt-ltb 128 b.spans h)
-
     module _ (short : b.spans ≤ 128) where
       pub no_station : 63 < lowest_in b → false ≡ usable b
       no_station h = rw (le-ltb 96 b.lightpaths few, le-ltb 128 b.spans short, le-ltb (lowest_in b) 64 (omega arith))

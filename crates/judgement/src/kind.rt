@@ -5,9 +5,9 @@ ghost use Rattle.judgement.specs.Arrays.{cut_or_okay_in, split_or_in, verdict_in
 ghost use Rattle.judgement.specs.Inside.{parts_in, cut_in, cut_or};
 ghost use Rattle.judgement.specs.declared.Verdict.TheVariants.{Okay};
 
+use crate::Verdict;
 use crate::judgeable::Judgeable;
-use crate::load::Overload;
-use crate::{Verdict, load};
+use crate::load::Loaded;
 use book::Book;
 
 // A span that parts the stations, with the side then.
@@ -61,15 +61,16 @@ pub(crate) fn split_or(b: &Judgeable) -> Verdict
     }
 }
 
-// The verdict on a book in memory: OVER at the lowest span whose load exceeds its limit, or what `split_or` says.
+// The verdict on a book in memory: OVER at the lowest span whose load exceeds its limit, or what `split_or` says. A struct that cannot be judged gets `Split(0)`,
+// and no Option, since `verdict_in` says so (docs/JUDGEMENT.md, J28).
 pub fn verdict_of(b: Book) -> Verdict
     ensures { result ≡ verdict_in b }
 {
     let Some(b) = Judgeable::of(b) else {
         return Verdict::Split(0);
     };
-    match load::first_over(&b, &load::loads_of(&b)) {
-        Some(Overload { span, load, limit }) => Verdict::Over(span, load, limit),
+    match Loaded::of(&b).first_over() {
+        Some(over) => over.into(),
         None => split_or(&b),
     }
 }

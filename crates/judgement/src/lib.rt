@@ -26,6 +26,7 @@ ghost use Rattle.judgement.specs.Sites.{closed_of};
 
 use book::choice;
 use book::refusal::Refusal;
+use question::Spans;
 
 // The first that holds: a span over its limit, with its load and limit; a network that is split, with the side; a span whose loss parts the stations, with
 // the side then; or none of these.
@@ -84,7 +85,7 @@ pub fn ask(s: &[u8], n: u32, x: u32) -> Result<Asked, Refusal>
 pub fn ask_set(s: &[u8], n: u32, low: u64, high: u64) -> Result<Asked, Refusal>
     ensures { result ≡ asked_set_of (chosen_of (reading s.now) n) low high }
 {
-    question::set_asked_of(choice::choose(s, n)?, low, high)
+    question::set_asked_of(choice::choose(s, n)?, Spans { low, high })
 }
 
 // Judges choice n of a book by contraction, the second engine: the verdict is that of `judge`, and the number of merges comes with it.

@@ -9,11 +9,11 @@ ghost use Rattle.judgement.specs.Merge.{Labelled, PiecesOf, OverPieces, given_in
 
 use crate::judgeable::Judgeable;
 use crate::label::Labels;
-use crate::load::Overload;
+use crate::load::Loaded;
 use crate::net::Net;
 use crate::ring::Words;
 use crate::side::Side;
-use crate::{Contracted, Verdict, kind, load, ring};
+use crate::{Contracted, Verdict, kind, ring};
 use book::Book;
 
 // The pieces: the label of each node, and how many rings were merged to make them.
@@ -83,9 +83,9 @@ pub(crate) fn contracted_of(b: Book) -> Contracted
     ensures { (m : RouteBook) → b ≡ book_of m → well_formed m ≡ true → result ≡ contraction_of m }
 {
     let j = Judgeable { book: b };
-    match load::first_over(&j, &load::loads_of(&j)) {
-        Some(Overload { span, load, limit }) => Contracted {
-            verdict: Verdict::Over(span, load, limit),
+    match Loaded::of(&j).first_over() {
+        Some(over) => Contracted {
+            verdict: over.into(),
             merges: 0,
         },
         None => {

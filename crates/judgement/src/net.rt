@@ -1,12 +1,12 @@
 // The network of a book as the code holds it, and its sides: the ends of the lightpaths, and how many of them there are.
-ghost use Rattle.std.specs.Prelude.{◌≡◌, ◌<◌};
+ghost use Rattle.std.specs.Prelude.{◌≡◌, ◌<◌, get_or};
 ghost use Rattle.judgement.specs.Inside.{Fits, noted, up_of, Led, unset};
 ghost use Rattle.judgement.specs.Network.{side_of};
 
 use crate::side;
-use crate::side::Side;
+use crate::side::{Ends, Side};
 
-// Lightpaths 0 to n - 1, with the ends of each: no more than a book can have, and each end is a node.
+// Lightpaths 0 to n - 1, with the ends of each: no more than a book can have, and each end is a node. The ends stand in two arrays, which are fields of `Book`.
 #[derive(Clone, Copy)]
 pub(crate) struct Net {
     pub from: [u8; 96],
@@ -16,17 +16,16 @@ pub(crate) struct Net {
 }
 
 // Puts both ends of a lightpath into the row of each, where it is up.
-fn note(rows: &mut [u64; 64], a: u8, b: u8, up: bool)
-    requires { (a < 64) × (b < 64) }
-    ensures { rows.new ≡ noted up a b rows.old }
+fn note(rows: &mut [u64; 64], ends: Ends, up: bool)
+    ensures { rows.new ≡ noted up ends.from ends.to rows.old }
 {
     if up {
-        let i = a as usize;
-        let j = b as usize;
+        let i = ends.from as usize;
+        let j = ends.to as usize;
         let first = Side { mask: rows[i] };
-        rows[i] = first.with_ends(a, b).mask;
+        rows[i] = first.with_ends(ends).mask;
         let second = Side { mask: rows[j] };
-        rows[j] = second.with_ends(a, b).mask;
+        rows[j] = second.with_ends(ends).mask;
     }
 }
 
@@ -34,13 +33,24 @@ impl Net {
     ghost use Rattle.std.specs.Prelude.{true};
     ghost use Rattle.judgement.specs.Nets.{net_in};
 
+    // The ends of lightpath k.
+    pub(crate) fn ends(&self, k: usize) -> Ends
+        requires { k < 96 }
+        ensures { (result.from ≡ get_or self.now.from k 0) × (result.to ≡ get_or self.now.to k 0) }
+    {
+        Ends {
+            from: self.from[k],
+            to: self.to[k],
+        }
+    }
+
     // Where the lightpaths that are up lead: row x is the set of the ends of those that end at x.
     pub(crate) fn rows(&self, up: &[bool; 96]) -> [u64; 64]
         ensures { Led 64 result (net_in self.now) (up_of up.now) }
     {
         let mut rows = [0u64; 64];
         for k in 0..self.n {
-            note(&mut rows, self.from[k], self.to[k], up[k]);
+            note(&mut rows, self.ends(k), up[k]);
         }
         rows
     }

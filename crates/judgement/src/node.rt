@@ -12,7 +12,8 @@ use crate::net::Net;
 use crate::side::Side;
 use book::Book;
 
-// Where a span leads from the node p: to the other of its two ends.
+// Where a span leads from the node p: to the other of its two ends. `Network::step_over` of book and `Trail::by` choose an end likewise, each with other cases
+// around the choice, so that one function for the three would be no plainer.
 fn other_end(left: u8, right: u8, p: u8) -> u8
     ensures { result ≡ cond (eqb left p) right left }
 {
@@ -66,7 +67,7 @@ fn side_left(all: Side, net: &Net, words: &[u64; 152], v: u8) -> Side
     ensures { result.mask ≡ side_left_in all.mask net.now.n net.now.from net.now.to words.now v }
 {
     let left = stations_left(all, v);
-    if left.mask == 0 {
+    if left.is_empty() {
         return left;
     }
     net.side_without(left.lowest(), words, v)

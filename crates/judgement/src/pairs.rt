@@ -1,48 +1,60 @@
 // One span out: the side of the lowest station, and the pairs that F counts there, which are the lightpaths on the span whose ends are not joined then.
-ghost use Rattle.std.specs.Prelude.{◌≡◌, Bool, not, ◌&&◌, ℕ, ◌<◌, length};
+ghost use Rattle.std.specs.Prelude.{◌≡◌, ◌<◌};
 ghost use Rattle.std.specs.Int.Count.{count_trailing_zeros};
 ghost use Rattle.book.specs.Bits.{has};
-ghost use Rattle.judgement.specs.Network.{Network, side_of};
+ghost use Rattle.judgement.specs.Network.{side_of};
 ghost use Rattle.judgement.specs.Judgement.{sum, one};
-ghost use Rattle.judgement.specs.Nets.{net_in};
-ghost use Rattle.judgement.specs.Inside.{up_of, Led, LedBySome, OneSide, EndsIn, parted_by, unset, apart_on};
+ghost use Rattle.judgement.specs.Nets.{net_in, Told};
+ghost use Rattle.judgement.specs.Inside.{up_of, EndsIn, parted_by, unset, apart_on};
 
 use crate::net::Net;
 use crate::side;
-use crate::side::{Side, up_without};
+use crate::side::{Ends, Side, up_without};
 
-// Whether two nodes are joined, given where the lightpaths that are up lead, and one side. Where that holds one of the two it tells; else a side is grown.
-fn joined(a: u8, b: u8, rows: &[u64; 64], known: Side) -> bool
-    requires { (a < 64) × (b < 64) × LedBySome 64 rows.now }
-    ensures { (net : Network) → (up : ℕ → Bool) → Led 64 rows.now net up → OneSide 64 net up known.mask → result ≡ has (side_of net up 64 a) b }
-{
-    if known.has(a) {
-        return known.has(b);
-    }
-    if known.has(b) {
-        return false;
-    }
-    side::reaches(a, b, rows)
+// A network of which some lightpaths are up: where these lead, and one side. That they do, `Told`, stays a clause: a ghost field takes a fact that has one proof
+// at most (else `ghost-field-no-proposition`), and `Led` tells by which lightpath each row leads.
+#[derive(Clone, Copy)]
+struct Known<'a> {
+    pub net: &'a Net,
+    pub up: &'a [bool; 96],
+    pub rows: &'a [u64; 64],
+    pub side: Side,
 }
 
-// Whether a lightpath is not up and its ends are not joined.
-fn is_apart(a: u8, b: u8, up: bool, rows: &[u64; 64], known: Side) -> bool
-    requires { (a < 64) × (b < 64) × LedBySome 64 rows.now }
-    ensures { (net : Network) → (t : ℕ → Bool) → Led 64 rows.now net t → OneSide 64 net t known.mask → result ≡ (not up && not (has (side_of net t 64 a) b)) }
-{
-    !up && !joined(a, b, rows, known)
-}
-
-// How many lightpaths are not up and have ends that are not joined by those that are.
-fn apart_on(net: &Net, up: &[bool; 96], rows: &[u64; 64], known: Side) -> u16
-    requires { Led 64 rows.now (net_in net.now) (up_of up.now) × OneSide 64 (net_in net.now) (up_of up.now) known.mask }
-    ensures { result ≡ sum (λ k. one (parted_by net.now.n net.now.from net.now.to (up_of up.now) k)) net.now.n }
-{
-    let mut total: u16 = 0;
-    for k in 0..net.n {
-        total += u16::from(is_apart(net.from[k], net.to[k], up[k], rows, known));
+impl Known<'_> {
+    // Whether the ends of a lightpath are joined. Where the side holds one of the two it tells; else a side is grown.
+    fn joined(&self, ends: Ends) -> bool
+        requires { Told self.now }
+        ensures { result ≡ has (side_of (net_in self.now.net.now) (up_of self.now.up.now) 64 ends.from) ends.to }
+    {
+        if self.side.has(ends.from) {
+            return self.side.has(ends.to);
+        }
+        if self.side.has(ends.to) {
+            return false;
+        }
+        side::reaches(ends, self.rows)
     }
-    total
+
+    // Whether lightpath k is not up and its ends are not joined.
+    fn is_apart(&self, k: usize) -> bool
+        requires { (k < self.now.net.now.n) × Told self.now }
+        ensures { result ≡ parted_by self.now.net.now.n self.now.net.now.from self.now.net.now.to (up_of self.now.up.now) k }
+    {
+        !self.up[k] && !self.joined(self.net.ends(k))
+    }
+
+    // How many lightpaths are not up and have ends that are not joined by those that are.
+    fn apart(&self) -> u16
+        requires { Told self.now }
+        ensures { result ≡ sum (λ k. one (parted_by self.now.net.now.n self.now.net.now.from self.now.net.now.to (up_of self.now.up.now) k)) self.now.net.now.n }
+    {
+        let mut total: u16 = 0;
+        for k in 0..self.net.n {
+            total += u16::from(self.is_apart(k));
+        }
+        total
+    }
 }
 
 // What the loss of a span does: the side of the lowest station then, and how many pairs F counts for the span.
@@ -59,11 +71,17 @@ pub(crate) fn loss_of(stations: Side, net: &Net, words: &[u64; 152], bit: u8) ->
 {
     let up = up_without(words, bit, net.n);
     let rows = net.rows(&up);
-    let known = side::grow(stations.lowest(), &rows);
-    let pairs = if known == stations {
+    let side = side::grow(stations.lowest(), &rows);
+    let pairs = if side == stations {
         0
     } else {
-        apart_on(net, &up, &rows, known)
+        Known {
+            net,
+            up: &up,
+            rows: &rows,
+            side,
+        }
+        .apart()
     };
-    Loss { side: known, pairs }
+    Loss { side, pairs }
 }

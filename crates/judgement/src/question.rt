@@ -15,6 +15,12 @@ use crate::{Asked, side};
 use book::Book;
 use book::refusal::{Fault, Refusal};
 
+// The refusal of a number that no span has.
+const NO_SPAN: Refusal = Refusal {
+    fault: Fault::NoSpan,
+    place: 0,
+};
+
 // The side with span x out.
 fn side_out(b: &Judgeable, x: u8) -> Side
     requires { x < 128 }
@@ -45,10 +51,7 @@ pub(crate) fn asked_of(b: Book, x: u32) -> Result<Asked, Refusal>
     ensures { (m : RouteBook) → b ≡ book_of m → well_formed m ≡ true → result ≡ asked_of (good m) x }
 {
     if x >= u32::from(b.spans) {
-        return Err(Refusal {
-            fault: Fault::NoSpan,
-            place: 0,
-        });
+        return Err(NO_SPAN);
     }
     let b = Judgeable { book: b };
     Ok(asked(&b, side_out(&b, x as u8)))
@@ -61,35 +64,44 @@ fn past(word: u64, n: u8) -> bool
     n < 64 && word >> n != 0
 }
 
-// Whether a set of spans has one that is not below n.
-fn beyond(low: u64, high: u64, n: u8) -> bool
-    requires { n ≤ 128 }
-    ensures { result ≡ beyond (in_words low high) n }
-{
-    past(low, n) || past(high, n - n.min(64))
+// A set of spans by two words: bit i of the first says whether span i is in it, and bit i of the second span 64 + i.
+#[derive(Clone, Copy)]
+pub(crate) struct Spans {
+    pub low: u64,
+    pub high: u64,
+}
+
+impl Spans {
+    // Whether the set has a number that is not below n.
+    fn beyond(self, n: u8) -> bool
+        requires { n ≤ 128 }
+        ensures { result ≡ beyond (in_words self.low self.high) n }
+    {
+        past(self.low, n) || past(self.high, n - n.min(64))
+    }
 }
 
 // The side with a set of spans out: the lightpaths are up whose words share no bit with it.
-fn side_with(b: &Judgeable, low: u64, high: u64) -> Side
-    ensures { result.mask ≡ side_by b.now.book (clear b.now.book.low b.now.book.high low high) }
+fn side_with(b: &Judgeable, out: Spans) -> Side
+    ensures { result.mask ≡ side_by b.now.book (clear b.now.book.low b.now.book.high out.low out.high) }
 {
     let net = b.net();
-    let up = side::up_where(net.n, |k| b.book.low[k] & low | b.book.high[k] & high == 0);
+    let up = side::up_where(
+        net.n,
+        |k| b.book.low[k] & out.low | b.book.high[k] & out.high == 0,
+    );
     net.side_of(b.lowest(), &up)
 }
 
 // The side with a set of spans out and whether it holds all stations; refused where some number of the set is no span's.
 #[tactic(auto, using(crate::proofs::Usable::held_usable))]
-pub(crate) fn set_asked_of(b: Book, low: u64, high: u64) -> Result<Asked, Refusal>
+pub(crate) fn set_asked_of(b: Book, out: Spans) -> Result<Asked, Refusal>
     requires { Held b }
-    ensures { (m : RouteBook) → b ≡ book_of m → well_formed m ≡ true → result ≡ asked_set_of (good m) low high }
+    ensures { (m : RouteBook) → b ≡ book_of m → well_formed m ≡ true → result ≡ asked_set_of (good m) out.low out.high }
 {
-    if beyond(low, high, b.spans) {
-        return Err(Refusal {
-            fault: Fault::NoSpan,
-            place: 0,
-        });
+    if out.beyond(b.spans) {
+        return Err(NO_SPAN);
     }
     let b = Judgeable { book: b };
-    Ok(asked(&b, side_with(&b, low, high)))
+    Ok(asked(&b, side_with(&b, out)))
 }

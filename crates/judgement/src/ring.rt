@@ -12,7 +12,8 @@ use crate::side::Side;
 use crate::ways;
 use crate::ways::{Rounds, rounds_to};
 
-// The spans of the lightpaths' routes by two words each: bit i of the first says whether span i is ridden, and bit i of the second span 64 + i.
+// The spans of the lightpaths' routes by two words each: bit i of the first says whether span i is ridden, and bit i of the second span 64 + i. They are fields of
+// `Book`.
 #[derive(Clone, Copy)]
 pub(crate) struct Words<'a> {
     pub low: &'a [u64; 152],
@@ -48,16 +49,19 @@ pub(crate) struct Trail {
 }
 
 impl Trail {
-    // With lightpath k more.
+    // With lightpath k more. The choice of the other end is that of `node::other_end`, over a lightpath in place of a span.
     fn by(self, net: &Net, words: &Words<'_>, k: usize) -> Trail
         requires { k < 96 }
         ensures { result ≡ with_path (net_in net.now) words.now.low.now words.now.high.now self k }
     {
-        let a = net.from[k];
-        let b = net.to[k];
+        let ends = net.ends(k);
         Trail {
-            at: if a == self.at { b } else { a },
-            touched: self.touched.with_ends(a, b),
+            at: if ends.from == self.at {
+                ends.to
+            } else {
+                ends.from
+            },
+            touched: self.touched.with_ends(ends),
             low: self.low.with(words.low[k]),
             high: self.high.with(words.high[k]),
         }
@@ -111,13 +115,12 @@ fn ring_of(net: &Net, words: &Words<'_>, k: usize) -> Option<Side>
     ensures { result ≡ cond (merges_by (net_in net.now) words.now.low.now words.now.high.now k)
         (ring_at (net_in net.now) words.now.low.now words.now.high.now k) None }
 {
-    let x = net.from[k];
-    let y = net.to[k];
-    if x == y {
+    let ends = net.ends(k);
+    if ends.from == ends.to {
         return None;
     }
-    let r = rounds_to(net, x, y, k);
-    if !r.at(r.last).has(x) {
+    let r = rounds_to(net, ends, k);
+    if !r.at(r.last).has(ends.from) {
         return None;
     }
     let t = ring_trail(net, words, &r, k);

@@ -1,14 +1,22 @@
 // Sides: sets of nodes as one word, bit i for node i, and the side of a node, grown from the nodes still to be looked at, each taken once.
-ghost use Rattle.std.specs.Prelude.{◌≡◌, Bool, ◌||◌, ℕ, ◌≤◌, ◌<◌};
+ghost use Rattle.std.specs.Prelude.{◌≡◌, Bool, ◌||◌, ℕ, ◌≤◌, ◌<◌, eqb};
 ghost use Rattle.std.specs.Int.Bits.{bit_or, bit_xor};
 ghost use Rattle.std.specs.Int.Count.{count_trailing_zeros};
 ghost use Rattle.book.specs.Bits.{has, put};
 ghost use Rattle.judgement.specs.Network.{Network, side_of};
 ghost use Rattle.judgement.specs.Inside.{Led, LedBySome, growth, next_in, took_in, up_table, unset, size};
 
+// The ends of a lightpath, each of which is a node: `Net::ends` reads them.
+#[derive(Clone, Copy)]
+pub(crate) struct Ends {
+    pub from: u8,
+    pub to: u8,
+    ghost low: { (from < 64) × (to < 64) },
+}
+
 // A set of numbers below 64, those of the nodes; the same word serves for the spans of a route, and for the nodes that it meets. Crate `book` has a set of its own:
-// no public function of it has a `requires` (docs/PROMISES.md), and `has` and `with` ask for a number below 64. That stays a clause, since the ends stand as bytes
-// in the arrays of `Book`: a type for the number of a node would be made anew wherever one is read, and taken apart wherever one is stored.
+// no public function of it has a `requires` (docs/PROMISES.md), and `has` and `with` ask for a number below 64. That stays a clause, since nodes stand as bytes in
+// the arrays of `Book`: a type for the number of a node would be made anew wherever one is read, and taken apart wherever one is stored.
 #[derive(Clone, Copy, PartialEq, Eq)]
 pub(crate) struct Side {
     pub mask: u64,
@@ -23,12 +31,11 @@ impl Side {
         (self.mask >> i) & 1 == 1
     }
 
-    // Whether one of two nodes is in the set.
-    pub(crate) fn has_either(self, a: u8, b: u8) -> bool
-        requires { (a < 64) × (b < 64) }
-        ensures { result ≡ (has self.mask a || has self.mask b) }
+    // Whether one end of a lightpath is in the set.
+    pub(crate) fn has_either(self, ends: Ends) -> bool
+        ensures { result ≡ (has self.mask ends.from || has self.mask ends.to) }
     {
-        self.has(a) || self.has(b)
+        self.has(ends.from) || self.has(ends.to)
     }
 
     // The set with node i put in.
@@ -41,17 +48,23 @@ impl Side {
         }
     }
 
-    // The set with both ends of one lightpath put in.
-    pub(crate) fn with_ends(self, a: u8, b: u8) -> Side
-        requires { (a < 64) × (b < 64) }
-        ensures { result.mask ≡ put (put self.mask a) b }
+    // The set with both ends of a lightpath put in.
+    pub(crate) fn with_ends(self, ends: Ends) -> Side
+        ensures { result.mask ≡ put (put self.mask ends.from) ends.to }
     {
         Side {
-            mask: self.mask | 1u64 << a | 1u64 << b,
+            mask: self.mask | 1u64 << ends.from | 1u64 << ends.to,
         }
     }
 
-    // The lowest-numbered node of the set, 64 where there is none.
+    // Whether no node is in the set.
+    pub(crate) fn is_empty(self) -> bool
+        ensures { result ≡ eqb self.mask 0 }
+    {
+        self.mask == 0
+    }
+
+    // The lowest-numbered node of the set, 64 where there is none, as `trailing_zeros` has it: an Option would be opened at each call.
     pub(crate) fn lowest(self) -> u8
         ensures { result ≡ count_trailing_zeros 64 self.mask }
     {
@@ -133,19 +146,20 @@ pub(crate) fn grow(start: u8, rows: &[u64; 64]) -> Side
     g.side
 }
 
-// Whether the side of a node holds another: no more of the side is grown than tells it.
-pub(crate) fn reaches(start: u8, end: u8, rows: &[u64; 64]) -> bool
-    requires { (start < 64) × (end < 64) × LedBySome 64 rows.now }
-    ensures { (net : Network) → (up : ℕ → Bool) → Led 64 rows.now net up → result ≡ has (side_of net up 64 start) end }
+// Whether the side of one end of a lightpath holds the other: no more of the side is grown than tells it. The loop is that of `grow` but for this: one loop for
+// both would have to say in its contract where it stopped, which is longer than a loop.
+pub(crate) fn reaches(ends: Ends, rows: &[u64; 64]) -> bool
+    requires { LedBySome 64 rows.now }
+    ensures { (net : Network) → (up : ℕ → Bool) → Led 64 rows.now net up → result ≡ has (side_of net up 64 ends.from) ends.to }
 {
-    let mut g = Growth::from(start);
+    let mut g = Growth::from(ends.from);
     while g.side != g.seen {
-        if g.side.has(end) {
+        if g.side.has(ends.to) {
             return true;
         }
         g = g.take(rows);
     }
-    g.side.has(end)
+    g.side.has(ends.to)
 }
 
 // Which of the first n lightpaths are up: those that pass a test.

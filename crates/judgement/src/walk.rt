@@ -6,13 +6,13 @@ ghost use Rattle.judgement.specs.Judgement.{first_of, score_f};
 ghost use Rattle.judgement.specs.Answers.{judgement_of};
 ghost use Rattle.judgement.specs.Arrays.{cut_or_okay_in, over_or_in};
 ghost use Rattle.judgement.specs.Inside.{EndsIn, parts_in, cut_in, apart_in, cut_or};
-ghost use Rattle.judgement.specs.Holding.{Held, Loads};
+ghost use Rattle.judgement.specs.Holding.{Held};
 ghost use Rattle.judgement.specs.declared.Verdict.TheVariants.{Okay};
 
 use crate::judgeable::Judgeable;
 use crate::kind::Parted;
-use crate::load::Overload;
-use crate::{Judged, Verdict, kind, load, pairs};
+use crate::load::Loaded;
+use crate::{Judged, Verdict, kind, pairs};
 use book::Book;
 
 // What a walk over spans tells: the lowest whose loss parts the stations, and how many pairs F counts.
@@ -62,13 +62,13 @@ fn walk_all(b: &Judgeable) -> Walked
 }
 
 // OVER at the lowest span that is over its limit, or else SPLIT, or else what a walk over all spans has found.
-fn verdict_walked(b: &Judgeable, loads: &[u16; 128], cut: Option<Parted>) -> Verdict
-    requires { Loads b.now.book loads.now × (cut_or Okay cut ≡ cut_or_okay_in b.now.book) }
-    ensures { result ≡ over_or_in b.now.book }
+fn verdict_walked(b: &Loaded<'_>, cut: Option<Parted>) -> Verdict
+    requires { cut_or Okay cut ≡ cut_or_okay_in b.now.judgeable.now.book }
+    ensures { result ≡ over_or_in b.now.judgeable.now.book }
 {
-    if let Some(Overload { span, load, limit }) = load::first_over(b, loads) {
-        Verdict::Over(span, load, limit)
-    } else if let Some(side) = b.split() {
+    if let Some(over) = b.first_over() {
+        over.into()
+    } else if let Some(side) = b.judgeable.split() {
         Verdict::Split(side.mask)
     } else {
         kind::cut_or_okay(cut)
@@ -82,11 +82,11 @@ pub(crate) fn judged_of(b: Book) -> Judged
     ensures { (m : RouteBook) → b ≡ book_of m → well_formed m ≡ true → result ≡ judgement_of m }
 {
     let b = Judgeable { book: b };
-    let loads = load::loads_of(&b);
+    let loaded = Loaded::of(&b);
     let walked = walk_all(&b);
     Judged {
-        verdict: verdict_walked(&b, &loads, walked.cut),
+        verdict: verdict_walked(&loaded, walked.cut),
         f: walked.pairs,
-        fc: load::excess(&b, &loads),
+        fc: loaded.excess(),
     }
 }

@@ -8,7 +8,7 @@ ghost use Rattle.judgement.specs.Nets.{net_in};
 ghost use Rattle.judgement.specs.Merge.{but, RoundsTo};
 
 use crate::net::Net;
-use crate::side::Side;
+use crate::side::{Ends, Side};
 
 // One round: the set with what is one of the lightpaths, other than `skip`, away from it. What a round adds counts only in the next.
 #[tactic(auto, using(crate::proofs::Trails::widen_none, crate::proofs::Trails::widen_next))]
@@ -17,16 +17,16 @@ fn widened(net: &Net, old: Side, skip: usize) -> Side
 {
     let mut all = old;
     for k in 0..net.n {
-        let a = net.from[k];
-        let b = net.to[k];
-        if k != skip && old.has_either(a, b) {
-            all = all.with_ends(a, b);
+        let ends = net.ends(k);
+        if k != skip && old.has_either(ends) {
+            all = all.with_ends(ends);
         }
     }
     all
 }
 
-// The rounds: place j of `sets` is what is at most j lightpaths away, up to the place `last`. The libraries have no heap, so the place stands beside an array.
+// The rounds: place j of `sets` is what is at most j lightpaths away, up to the place `last`, which stands beside the array: the library has no heap, and a vector
+// of a fixed capacity would hand out each round as an Option, which its one reader would have to open.
 #[derive(Clone, Copy)]
 pub(crate) struct Rounds {
     pub sets: [u64; 65],
@@ -43,17 +43,16 @@ impl Rounds {
     }
 }
 
-// The rounds from y by lightpaths other than `skip`, until one meets x or adds nothing: no later one would tell more of the way from x.
-pub(crate) fn rounds_to(net: &Net, x: u8, y: u8, skip: usize) -> Rounds
-    requires { (x < 64) × (y < 64) }
-    ensures { RoundsTo (net_in net.now) (but skip) y x result }
+// The rounds from the "to" of a lightpath by others than `skip`, until one meets its "from" or adds nothing: no later one would tell more of the way from there.
+pub(crate) fn rounds_to(net: &Net, ends: Ends, skip: usize) -> Rounds
+    ensures { RoundsTo (net_in net.now) (but skip) ends.to ends.from result }
 {
-    let mut side = Side { mask: 0 }.with(y);
+    let mut side = Side { mask: 0 }.with(ends.to);
     let mut sets = [0u64; 65];
     sets[0] = side.mask;
     let mut last = 0;
     for j in 1..65 {
-        if side.has(x) {
+        if side.has(ends.from) {
             break;
         }
         let next = widened(net, side, skip);
@@ -68,16 +67,15 @@ pub(crate) fn rounds_to(net: &Net, x: u8, y: u8, skip: usize) -> Rounds
 }
 
 // Whether a lightpath leads from x into a set: x is one of its ends, and the set has the other.
-fn leads(x: u8, set: Side, a: u8, b: u8) -> bool
-    requires { (a < 64) × (b < 64) }
-    ensures { result ≡ ((eqb a x && has set.mask b) || (eqb b x && has set.mask a)) }
+fn leads(x: u8, set: Side, ends: Ends) -> bool
+    ensures { result ≡ ((eqb ends.from x && has set.mask ends.to) || (eqb ends.to x && has set.mask ends.from)) }
 {
-    (a == x && set.has(b)) || (b == x && set.has(a))
+    (ends.from == x && set.has(ends.to)) || (ends.to == x && set.has(ends.from))
 }
 
 // The lowest of the lightpaths, other than `skip`, that leads from x into a set.
 pub(crate) fn leading(net: &Net, x: u8, set: Side, skip: usize) -> Option<usize>
     ensures { result ≡ first_of (leads (net_in net.now) (but skip) x set.mask) Some None net.now.n 0 }
 {
-    (0..net.n).find(|k| *k != skip && leads(x, set, net.from[*k], net.to[*k]))
+    (0..net.n).find(|k| *k != skip && leads(x, set, net.ends(*k)))
 }

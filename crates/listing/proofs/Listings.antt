@@ -25,7 +25,7 @@ use Rattle.judgement.specs.Sites.{site_of}
 use Rattle.judgement.specs.declared.Asked.{Asked}
 use Rattle.search.specs.Search.{finding}
 use Rattle.listing.specs.Text.{text_of}
-use Rattle.listing.specs.Report.{word_book, word_score, book_line, verdict_line, score_line, site_line, finding_line, moves_of, end_line}
+use Rattle.listing.specs.Report.{word_book, word_score, book_line, verdict_line, score_line, site_line, finding_line, moves_of, end_line, bad_text}
 use Rattle.listing.specs.Commands.{word_choice, word_choices, word_joined, word_parted, word_written, choice_line, joined_line, choices_line, written_line}
 use Rattle.listing.specs.Commands.{judge_of, open_of, search_of, read_of, write_of}
 use Rattle.listing.specs.declared.text.Text.{Text}
@@ -124,3 +124,6 @@ module _ (t : Text) where
 
   pub written_whole : (w : Result ℕ Refusal) → t ≡ text_of (write_of w) → take t.len t.bytes ≡ write_of w
   written_whole w e = text_whole _ (omega (arith, written_short w)) e
+
+  pub refused_whole : (k p : ℕ) → t ≡ text_of (bad_text k p) → take t.len t.bytes ≡ bad_text k p
+  refused_whole k p e = text_whole _ (omega (arith, bad_short k p)) e

@@ -4,6 +4,7 @@ ghost use Rattle.book.specs.Format.{reading};
 ghost use Rattle.book.specs.Writing.{chosen_of};
 ghost use Rattle.judgement.specs.Answers.{asked_of};
 ghost use Rattle.listing.specs.Text.{text_of};
+ghost use Rattle.listing.specs.Report.{bad_text};
 ghost use Rattle.listing.specs.Commands.{judge_of, open_of, search_of, read_of, write_of, is_refusal};
 ghost use Rattle.listing.specs.Inside.{told};
 
@@ -86,6 +87,13 @@ pub fn written(w: Result<usize, Refusal>) -> Text
         Ok(len) => Text::none().written_line(len).end_line(),
         Err(refusal) => Text::refused(refusal),
     }
+}
+
+// A refusal, by any number and place: these may be more than the faults that a book or a question can have.
+pub fn refused(number: u8, place: usize) -> Text
+    ensures { result ≡ text_of (bad_text number place) }
+{
+    Text::none().bad_line(number, place).end_line()
 }
 
 // Whether an answer is a refusal, which begins with the word BAD, as no other does.

@@ -8,6 +8,7 @@ ghost use Rattle.listing.specs.Inside.{Adds};
 ghost use Rattle.listing.specs.Report.{end_line, bad_line, bad_text, book_line, verdict_line, score_line, site_line, finding_line, move_line, move_lines, moves_of};
 ghost use Rattle.listing.specs.Commands.{choice_line, joined_line, choices_line, written_line};
 
+use crate::commands;
 use crate::text::Text;
 use book::Book;
 use book::choice::{Choice, Movables};
@@ -15,6 +16,7 @@ use book::refusal::Refusal;
 use judgement::{Asked, Down, Judged, Verdict};
 use search::Finding;
 
+// Each line is a chain of `word` and `number`, which are what the lines share.
 impl Text {
     // What the book has: nodes, spans, lightpaths, alternatives.
     pub(crate) fn book_line(self, b: Book) -> Text
@@ -155,12 +157,12 @@ impl Text {
     }
 
     // A refusal's number and place.
-    fn bad_line(self, refusal: Refusal) -> Text
-        ensures { Adds self (bad_line (fault_number refusal.fault) refusal.place) result }
+    pub(crate) fn bad_line(self, number: u8, place: usize) -> Text
+        ensures { Adds self (bad_line number place) result }
     {
         self.word(b"BAD")
-            .number(refusal.fault.number() as u64)
-            .number(refusal.place as u64)
+            .number(number as u64)
+            .number(place as u64)
             .end()
     }
 
@@ -175,6 +177,6 @@ impl Text {
     pub(crate) fn refused(refusal: Refusal) -> Text
         ensures { result ≡ text_of (bad_text (fault_number refusal.fault) refusal.place) }
     {
-        Text::none().bad_line(refusal).end_line()
+        commands::refused(refusal.fault.number(), refusal.place)
     }
 }

@@ -27,7 +27,7 @@ fn with_digit(n: u32, c: u8) -> Option<u32>
     n.checked_mul(10)?.checked_add((c - b'0') as u32)
 }
 
-// The number that a word is, or why it is none.
+// The number that a word is, or why it is none. The library's `FromStr` parses text, and a word is bytes.
 pub fn parse(word: &[u8]) -> Result<u32, NotNumber>
     ensures { result ≡ parsed word.now }
 {

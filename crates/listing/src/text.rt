@@ -1,5 +1,5 @@
 // Text in memory, byte by byte: words, decimal numbers, and sides as hex digits.
-ghost use Rattle.std.specs.Prelude.{◌≡◌, [], ◌∷◌, ◌-◌, ◌^◌, ◌≤◌, ◌<◌, take};
+ghost use Rattle.std.specs.Prelude.{◌≡◌, [], ◌∷◌, ◌-◌, ◌^◌, ◌≤◌, ◌<◌};
 ghost use Rattle.listing.specs.Text.{glyph, spelled, decimal, hex, text_of};
 ghost use Rattle.listing.specs.Inside.{Adds};
 
@@ -30,14 +30,6 @@ impl Text {
             len: 0,
             bytes: [0; 1024],
         }
-    }
-
-    // The bytes of the text.
-    pub fn as_bytes(&self) -> &[u8]
-        ensures { result.now ≡ take self.now.len self.now.bytes }
-    {
-        let len = (self.len as usize).min(self.bytes.len());
-        &self.bytes[..len]
     }
 
     // With one byte more.

@@ -1,11 +1,11 @@
 // The report program: reads the book that its argument names, or else standard input, keeps 4,096 bytes of it, and prints the report on it.
 #![tactic(auto)]
 
-ghost use Rattle.std.specs.Prelude.{IfOk};
+ghost use Rattle.std.specs.Prelude.{MatchResult};
 ghost use Rattle.io.specs.Counts.{IsPrefixLen};
 
+use console::Unread;
 use std::env::FillError;
-use std::io::Error;
 use std::rt::Env;
 
 // Whether the program was given an argument, of whatever length.
@@ -15,8 +15,8 @@ fn is_named(rt: &HostRuntime) -> bool {
 }
 
 // Reads the book.
-fn take(rt: &HostRuntime, space: &mut [u8]) -> Result<usize, Error>
-    ensures { IfOk result (λ n. IsPrefixLen n space.new) }
+fn take(rt: &HostRuntime, space: &mut [u8]) -> Result<usize, Unread>
+    ensures { MatchResult result (λ n. IsPrefixLen n space.new) (λ u. IsPrefixLen u.len space.new) }
 {
     if is_named(rt) {
         console::read_file(rt, 1, b"BOOK", space)

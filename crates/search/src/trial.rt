@@ -12,10 +12,5 @@ pub(crate) fn acceptable(b: Book, w: Movables, c: Choice) -> bool
 {
     let chosen = choice::chosen(b, w, c);
     let v = kind::verdict_of(chosen);
-    match v {
-        Verdict::Over(_, _, _) => false,
-        Verdict::Split(_) => false,
-        Verdict::Cut(_, _) => false,
-        Verdict::Okay => true,
-    }
+    matches!(v, Verdict::Okay)
 }

@@ -103,7 +103,7 @@ impl Tallies {
     }
 }
 
-// Writes a word and a number after it.
+// Writes a word and a number after it, by the kit's `io`: nothing is done where a write fails.
 fn print(word: &[u8], n: u64) {
     io::write_all(STDOUT_FILENO, word);
     io::write_all(STDOUT_FILENO, b" ");

@@ -2,7 +2,7 @@
 use native.Mathlib.Omega.{arith}
 use Rattle.std.proofs.lemmas.Result.{err_from_is_err_and}
 use Rattle.book.proofs.Stages.{all_bytes, spans_held, lightpaths_held}
-use Rattle.book.proofs.Replies.{head_stop, nodes_stop, nodes_none, nodes_on, spans_stop, spans_on, lightpaths_stop, lightpaths_on, alternatives_stop, all_within, end_stop, whole}
+use Rattle.book.proofs.Replies.{head_stop, nodes_stop, nodes_none, nodes_on, spans_stop, spans_on, lightpaths_stop, lightpaths_on, alternatives_stop, end_stop, whole}
 use Rattle.book.proofs.read.Goals as goal
 
 pub returns-in_err-counts : goal.returns-in_err-counts
@@ -37,7 +37,7 @@ with_lightpaths-requires c =
     let b = all_bytes s (λ i. omega (arith, c.type_inv.s i)) in
     let n = nodes_on s b c.in_ok-counts.counts c.in_ok-counts.ensures c.in_ok-nodes.ensures c.if-nodes-eq0.false in
     let x = spans_on s b _ n c.in_ok-spans.ensures in
-    (x.within, c.in_ok-counts.counts.few.2, spans_held x.read)
+    (c.in_ok-counts.counts.few.2, spans_held x.read)
 
 pub returns-in_err-lightpaths : goal.returns-in_err-lightpaths
 returns-in_err-lightpaths c =
@@ -55,7 +55,7 @@ with_alternatives-requires c =
     let n = nodes_on s b c.in_ok-counts.counts c.in_ok-counts.ensures c.in_ok-nodes.ensures c.if-nodes-eq0.false in
     let x = spans_on s b _ n c.in_ok-spans.ensures in
     let l = lightpaths_on s b _ x c.in_ok-lightpaths.ensures in
-    (l.within, c.in_ok-counts.counts.few.3, lightpaths_held l.read)
+    (c.in_ok-counts.counts.few.3, lightpaths_held l.read)
 
 pub returns-in_err-all : goal.returns-in_err-all
 returns-in_err-all c =
@@ -66,15 +66,6 @@ returns-in_err-all c =
     let l = lightpaths_on s b _ x c.in_ok-lightpaths.ensures in
     let p = err_from_is_err_and c.from_residual-in_err-all.result c.from_residual-in_err-all.ensures.1 in
     rw (p.1, p.2) (alternatives_stop s b _ l c.in_err-all.ensures)
-
-pub en-requires : goal.en-requires
-en-requires c =
-    let s = c.args.s.now in
-    let b = all_bytes s (λ i. omega (arith, c.type_inv.s i)) in
-    let n = nodes_on s b c.in_ok-counts.counts c.in_ok-counts.ensures c.in_ok-nodes.ensures c.if-nodes-eq0.false in
-    let x = spans_on s b _ n c.in_ok-spans.ensures in
-    let l = lightpaths_on s b _ x c.in_ok-lightpaths.ensures in
-    all_within s b _ l c.in_ok-all.ensures
 
 pub returns-in_err-en : goal.returns-in_err-en
 returns-in_err-en c =

@@ -1,22 +1,14 @@
 -- Moving the movable lightpaths that are left, in the rows as they now are, gives the same as moving all from the start; and nothing else changes.
 -- Each has at most 255 alternatives, which bounds where those of the next begin.
 use mathlib.Core.Logic.{inl, inr}
-use Prim.Native.Nat.{◌*◌, ◌≤◌}
+use Prim.Native.Nat.{◌*◌}
 use mir.Syntax.{w8}
 use mir.Val.{Fits}
 use native.Mathlib.Omega.{arith}
 use borrow.Author.Rules.{rules}
-use Rattle.book.proofs.Moved.{moving_start, moving_next, moving_end}
+use Rattle.book.proofs.Moved.{moving_next, moving_end}
 use Rattle.book.proofs.Routes.{lent}
 use Rattle.book.proofs.choice.chosen.Goals as goal
-
-pub loop-k-init : goal.loop-k-init
-loop-k-init c =
-    let all = c.zip-movable.ensures in
-    let taken = c.take-k-items.ensures in
-    let few : c.args.b.lightpaths ≤ 255 = search rules in
-    rw (c.into_iter-k-iterator.ensures.into_iter_gives, taken.source, taken.count, all.first, all.second.0, c.zip.ensures.first, c.zip.ensures.second.0, c.iter.ensures.rest)
-    (moving_start c.args.b c.args.w c.args.c few (search rules) (search rules) (search rules))
 
 -- the row that is lent to the copy is the sixteen places of row `from`
 pub loop-k-preserved : goal.loop-k-preserved

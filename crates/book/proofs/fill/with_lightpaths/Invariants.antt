@@ -4,4 +4,4 @@ use Rattle.book.proofs.Lightpaths.{LightpathsTurned}
 use Rattle.book.proofs.fill.with_lightpaths.Given as goal
 
 abbrev pub invariant-loop-k : goal.invariant-loop-k
-invariant-loop-k l = LightpathsTurned l.fn.so_far.book l.s l.fn.so_far.next l.count l.k l.next l.from l.to l.rows.len l.rows.route l.rows.low l.rows.high
+invariant-loop-k l = LightpathsTurned l.fn.so_far.book l.s l.fn.so_far.next.at l.count l.k l.next l.from l.to l.rows.len l.rows.route l.rows.low l.rows.high

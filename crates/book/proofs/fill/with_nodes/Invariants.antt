@@ -3,4 +3,4 @@ use Rattle.book.proofs.Filling.{NodesTurned}
 use Rattle.book.proofs.fill.with_nodes.Given as goal
 
 abbrev pub invariant-loop-k : goal.invariant-loop-k
-invariant-loop-k l = NodesTurned l.s l.at l.count l.k l.next l.stations
+invariant-loop-k l = NodesTurned l.s l.fn.here.at l.count l.k l.next l.stations

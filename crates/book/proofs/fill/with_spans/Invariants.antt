@@ -4,4 +4,4 @@ use Rattle.book.proofs.Filling.{SpansTurned}
 use Rattle.book.proofs.fill.with_spans.Given as goal
 
 abbrev pub invariant-loop-k : goal.invariant-loop-k
-invariant-loop-k l = SpansTurned l.fn.so_far.book.nodes l.s l.fn.so_far.next l.count l.k l.next l.left l.right l.limit
+invariant-loop-k l = SpansTurned l.fn.so_far.book.nodes l.s l.fn.so_far.next.at l.count l.k l.next l.left l.right l.limit

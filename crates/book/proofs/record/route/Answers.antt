@@ -13,49 +13,43 @@ use Rattle.book.proofs.Routes.{no_length, no_torn, no_high, no_walk, no_fault}
 use Rattle.book.proofs.record.route.Goals as goal
 use Rattle.book.proofs.record.route.Goals.{Else-s-start, In_default}
 
-pub returns-then-not-length_fits : goal.returns-then-not-length_fits
-returns-then-not-length_fits c = rw c.at.ensures (no_length _ _ _ _ _ _ c.requires.1 (sym c.if-not-length_fits.ensures))
-
-pub returns-then-s-start : goal.returns-then-s-start
-returns-then-s-start c = rw c.at-then-s-start.ensures (no_torn _ _ _ _ _ _ c.requires.1 (sym c.if-not-length_fits.ensures) c.if-s-start.true)
-
 -- the length fits, and the spans are there
 module _ (c : Else-s-start) where
   fits : length_fits c.args.len ≡ true
   fits = sym c.if-not-length_fits.ensures
 
-  there : c.args.start + c.args.len ≤ length c.args.s.now
-  there = omega (arith, c.if-s-start.false, c.requires.2)
+  there : c.args.start + c.args.len ≤ length c.args.here.s.now
+  there = omega (arith, c.if-s-start.false, c.requires.1)
 
 pub returns-in-Some : goal.returns-in-Some
 returns-in-Some c =
     let x = c.args in
     rw c.at-in-Some.ensures
-    (no_high _ _ _ _ _ _ c.requires.1 (fits (goal.at.returns-in-Some c).Else-s-start) (there (goal.at.returns-in-Some c).Else-s-start) _
-    (high_at _ _ _ (rw (lent x.s.now x.start x.len) at c.in-Some.ensures)))
+    (no_high _ _ _ _ _ _ c.args.here.within (fits (goal.at.returns-in-Some c).Else-s-start) (there (goal.at.returns-in-Some c).Else-s-start) _
+    (high_at _ _ _ (rw (lent x.here.s.now x.start x.len) at c.in-Some.ensures)))
 
 -- no number is too high
 module _ (c : In_default) where
-  low : HighAt c.args.network.book.now.spans (take c.args.len (drop c.args.start c.args.s.now)) None
-  low = high_at _ _ _ (rw (lent c.args.s.now c.args.start c.args.len) at c.in_default.ensures)
+  low : HighAt c.args.network.book.now.spans (take c.args.len (drop c.args.start c.args.here.s.now)) None
+  low = high_at _ _ _ (rw (lent c.args.here.s.now c.args.start c.args.len) at c.in_default.ensures)
 
 pub first_stray-requires : goal.first_stray-requires
 first_stray-requires c =
     let x = c.args in
-    let h : HighAt x.network.book.now.spans (take x.len (drop x.start x.s.now)) None = low (goal.at.first_stray-requires c).In_default in
-    (rw (lent x.s.now x.start x.len) (below_wider x.network.book.now.spans 128 _ x.network.held.spans_few h), c.requires.0)
+    let h : HighAt x.network.book.now.spans (take x.len (drop x.start x.here.s.now)) None = low (goal.at.first_stray-requires c).In_default in
+    (rw (lent x.here.s.now x.start x.len) (below_wider x.network.book.now.spans 128 _ x.network.held.spans_few h), c.requires.0)
 
 pub returns-in-Some-first_stray : goal.returns-in-Some-first_stray
 returns-in-Some-first_stray c =
     let x = c.args in
-    let w = rw (lent x.s.now x.start x.len) at c.in-Some-first_stray.ensures in
+    let w = rw (lent x.here.s.now x.start x.len) at c.in-Some-first_stray.ensures in
     rw c.at-in-Some-first_stray.ensures
-    (no_walk _ _ _ _ _ _ c.requires.1 (fits (goal.at.returns-in-Some-first_stray c).Else-s-start) (there (goal.at.returns-in-Some-first_stray c).Else-s-start)
+    (no_walk _ _ _ _ _ _ c.args.here.within (fits (goal.at.returns-in-Some-first_stray c).Else-s-start) (there (goal.at.returns-in-Some-first_stray c).Else-s-start)
     (low (goal.at.returns-in-Some-first_stray c).In_default) _ w.0 w.1)
 
 pub returns : goal.returns
 returns c =
     let x = c.args in
-    rw (lent x.s.now x.start x.len)
-    (no_fault _ _ _ _ _ _ c.requires.1 (fits (goal.at.returns c).Else-s-start) (there (goal.at.returns c).Else-s-start) (low (goal.at.returns c).In_default)
-    (rw (lent x.s.now x.start x.len) at c.in_default-first_stray.ensures.0))
+    rw (lent x.here.s.now x.start x.len)
+    (no_fault _ _ _ _ _ _ c.args.here.within (fits (goal.at.returns c).Else-s-start) (there (goal.at.returns c).Else-s-start) (low (goal.at.returns c).In_default)
+    (rw (lent x.here.s.now x.start x.len) at c.in_default-first_stray.ensures.0))

@@ -4,14 +4,11 @@ use native.Mathlib.Omega.{arith}
 use Prim.Native.Nat.{◌*◌}
 use lib.ListN.{get_or, drop, length-take}
 use Rattle.book.proofs.Routes.{lent}
-use Rattle.book.proofs.Writers.{held_few, held_short, held_reach, putting_start, putting_room, putting_next, putting_done}
+use Rattle.book.proofs.Writers.{held_few, held_short, putting_start, putting_room, putting_next}
 use Rattle.book.proofs.write.put_lightpaths.Goals as goal
 
 pub loop-k-init : goal.loop-k-init
 loop-k-init c = record { few = held_few c.requires.0; put = putting_start _ _ _ }
-
-pub slice_bounds-route-end : goal.slice_bounds-route-end
-slice_bounds-route-end c = omega (arith, held_reach c.requires.0 c.loop-k.k c.loop-k-test.true)
 
 pub put_lp-requires : goal.put_lp-requires
 put_lp-requires c =
@@ -29,6 +26,3 @@ loop-k-preserved c =
       few = l.invariant.few;
       put = putting_next _ _ _ l.invariant.put c.loop-k-test.true c.requires.1 _ (lent b.route (16 * l.k) (get_or b.len l.k 0));
     }
-
-pub returns : goal.returns
-returns c = putting_done _ _ _ c.loop-k.invariant.put c.loop-k-test.false

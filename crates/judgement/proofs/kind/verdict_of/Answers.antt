@@ -15,9 +15,9 @@ judged j = sym (ap (λ (t : Bool). cond t (over_or_in j.book) (Split 0)) j.usabl
 pub returns-in-Some-first_over : goal.returns-in-Some-first_over
 returns-in-Some-first_over c =
     let j = c.in-Some.b in
-    ap (over_or (split_or_in j.book)) (sym c.in-Some-first_over.is) ∙ over_is j.book _ c.first_over.ensures ∙ judged j ∙ ap verdict_in c.in-Some.ensures
+    c.into.ensures ∙ ap (over_or (split_or_in j.book)) (sym c.in-Some-first_over.is) ∙ over_is j.book _ (rw c.of-2.ensures at c.first_over.ensures) ∙ judged j ∙ ap verdict_in c.in-Some.ensures
 
 pub returns-in-None : goal.returns-in-None
 returns-in-None c =
     let j = c.in-Some.b in
-    c.split_or.ensures ∙ ap (over_or (split_or_in j.book)) (sym c.in-None.is) ∙ over_is j.book _ c.first_over.ensures ∙ judged j ∙ ap verdict_in c.in-Some.ensures
+    c.split_or.ensures ∙ ap (over_or (split_or_in j.book)) (sym c.in-None.is) ∙ over_is j.book _ (rw c.of-2.ensures at c.first_over.ensures) ∙ judged j ∙ ap verdict_in c.in-Some.ensures

@@ -14,12 +14,6 @@ loop-ring-init c m e good = going_start m good c.singles-labels.ensures
 room : (l : At-loop-ring) → l.loop-ring.merges ≤ 4032
 room l = let h = l.requires in going_room h.book h.fits (l.loop-ring.invariant h.book h.is h.fits)
 
-pub overflow_add-merges : goal.overflow_add-merges
-overflow_add-merges c = omega (arith, room (goal.at.overflow_add-merges c).At-loop-ring)
-
-pub loop-ring-smaller : goal.loop-ring-smaller
-loop-ring-smaller c = omega (arith, room (goal.at.loop-ring-smaller c).At-loop-ring)
-
 pub loop-ring-preserved : goal.loop-ring-preserved
 loop-ring-preserved c m e good =
     going_next m good e (c.loop-ring.invariant m e good) c.net-net.ensures c.over.ensures c.first_ring.ensures c.in-Some.is c.joined-labels.ensures

@@ -18,10 +18,10 @@ returns c m e good =
     let a = c.args in
     let st : a.b.stations ≡ stations m = ap (λ (x : Book). x.stations) e in
     rw (
-      sym (ap (λ (x : Book). beyond (in_words a.low a.high) x.spans) e) ∙ sym c.if-beyond.ensures,
+      sym (ap (λ (x : Book). beyond (in_words a.out.low a.out.high) x.spans) e) ∙ sym c.if-beyond.ensures,
       c.asked.ensures,
       c.side_with.ensures ∙ side_booked (search rules) (search rules) m e,
       st,
-      whole_size m good (up_with m (in_words a.low a.high)),
+      whole_size m good (up_with m (in_words a.out.low a.out.high)),
     )
     refl

@@ -9,7 +9,7 @@ use Rattle.judgement.proofs.question.side_with.Goals as goal
 pub returns : goal.returns
 returns c =
     let b = c.args.b.now.book in
-    let t = clear b.low b.high c.args.low c.args.high in
+    let t = clear b.low b.high c.args.out.low c.args.out.high in
     let w = c.net-net.result in
     let e = c.net-net.ensures in
     let up : c.up_where-up.result ≡ up_table t w.n = search rules in

@@ -7,8 +7,8 @@ use Rattle.judgement.specs.Inside.{Led, size}
 use Rattle.judgement.proofs.Worklist.{Working}
 use Rattle.judgement.proofs.side.reaches.Given as goal
 
-abbrev pub invariant-loop-g : goal.invariant-loop-g
-invariant-loop-g l = (net : Network) → (up : ℕ → Bool) → Led 64 l.rows net up → Working 64 net up l.start l.g.side.mask l.g.seen.mask
+abbrev pub invariant-loop-ends : goal.invariant-loop-ends
+invariant-loop-ends l = (net : Network) → (up : ℕ → Bool) → Led 64 l.rows net up → Working 64 net up l.ends.from l.g.side.mask l.g.seen.mask
 
-abbrev pub decreases-loop-g : goal.decreases-loop-g
-decreases-loop-g l = 64 - size 64 l.g.seen.mask
+abbrev pub decreases-loop-ends : goal.decreases-loop-ends
+decreases-loop-ends l = 64 - size 64 l.g.seen.mask

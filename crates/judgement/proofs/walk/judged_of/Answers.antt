@@ -9,5 +9,5 @@ use Rattle.judgement.proofs.walk.judged_of.Goals as goal
 
 pub returns : goal.returns
 returns c m is fits =
-    ap₂ (λ (v : Verdict) (f : ℕ). judged v f c.excess.result) (c.verdict_walked.ensures ∙ over_in m fits is) (c.walk_all-walked.ensures.1 m is fits)
-    ∙ ap (judged (verdict m) (score_f m)) (c.excess.ensures m is fits)
+    ap₂ (λ (v : Verdict) (f : ℕ). judged v f c.excess.result) (rw c.of-loaded.ensures at c.verdict_walked.ensures ∙ over_in m fits is) (c.walk_all-walked.ensures.1 m is fits)
+    ∙ ap (judged (verdict m) (score_f m)) (c.excess.ensures m (rw c.of-loaded.ensures is) fits)

@@ -49,12 +49,6 @@ module _ (c : After-loss_of-loss) where
 pub loop-i-init : goal.loop-i-init
 loop-i-init c = (back_start _ _ _ _, omega arith)
 
-pub loss_of-loss-requires : goal.loss_of-loss-requires
-loss_of-loss-requires c =
-    let e = c.net-net.ensures in
-    rw (e.0, e.1, e.2, c.stations-stations.ensures)
-    (usable_start c.args.b.now.usable, omega (arith, c.requires.1, c.loop-i.auto.i, c.loop-i-test.true), c.requires.0)
-
 pub overflow_add-pairs : goal.overflow_add-pairs
 overflow_add-pairs c =
     let b = c.args.b.now in

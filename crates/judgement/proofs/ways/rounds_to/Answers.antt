@@ -21,6 +21,3 @@ returns-then-has c = rounding_met _ _ _ _ c.loop-j.invariant.1 (sym c.has.ensure
 pub returns-then-eq : goal.returns-then-eq
 returns-then-eq c =
     rounding_same _ _ _ _ c.loop-j.invariant.1 (sym c.widened-next.ensures ∙ eqb-true _ _ (sym c.if-eq.ensures))
-
-pub returns-after-loop-j : goal.returns-after-loop-j
-returns-after-loop-j c = rounding_all _ _ _ _ c.loop-j.invariant.1 (omega arith)

@@ -7,4 +7,4 @@ use Rattle.judgement.proofs.Trails.{Rounding}
 use Rattle.judgement.proofs.ways.rounds_to.Given as goal
 
 abbrev pub invariant-loop-j : goal.invariant-loop-j
-invariant-loop-j l = (l.j ≡ l.last + 1) × Rounding (net_in l.net) (but l.skip) l.y l.x l.sets l.last l.side.mask
+invariant-loop-j l = (l.j ≡ l.last + 1) × Rounding (net_in l.net) (but l.skip) l.ends.to l.ends.from l.sets l.last l.side.mask

@@ -1,14 +1,8 @@
 -- Gathering the alternatives that are left gives the same as gathering all from none.
 -- No more than eight lightpaths are found.
-use mathlib.Core.Path.{refl, sym, ◌∙◌}
-use native.Mathlib.Omega.{arith}
+use mathlib.Core.Path.{sym, ◌∙◌}
 use Rattle.book.proofs.Movables.{with_few, gathered_next, gathered_all}
 use Rattle.book.proofs.choice.Movables.of.Goals as goal
-
-pub loop-k-init : goal.loop-k-init
-loop-k-init c =
-    let taken = c.take-k-items.ensures in
-    record { eight = omega arith; left = rw (c.into_iter-k-iterator.ensures.into_iter_gives, taken.source, taken.count, c.iter.ensures.rest) refl }
 
 pub loop-k-preserved : goal.loop-k-preserved
 loop-k-preserved c =

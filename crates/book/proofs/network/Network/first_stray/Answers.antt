@@ -17,9 +17,6 @@ returns-in_default c =
       l.auto.j-end,
     )
 
-pub put-met-requires-in-loop-j : goal.put-met-requires-in-loop-j
-put-met-requires-in-loop-j c = hop_low _ _ _ _ _ _ c.step_over.ensures _ c.args.self.held.left_low c.args.self.held.right_low c.in-Some.is
-
 pub loop-j-preserved : goal.loop-j-preserved
 loop-j-preserved c =
     let l = c.loop-j in (

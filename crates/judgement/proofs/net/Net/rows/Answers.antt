@@ -10,4 +10,4 @@ pub loop-k-preserved : goal.loop-k-preserved
 loop-k-preserved c =
     let l = c.loop-k in
     let w = c.args.self.now in
-    rw c.note.ensures (leads_more 64 w.from w.to (up_of c.args.up.now) l.k l.invariant (w.fits.from_low _) (w.fits.to_low _))
+    rw (c.note.ensures, c.ends.ensures.0, c.ends.ensures.1) (leads_more 64 w.from w.to (up_of c.args.up.now) l.k l.invariant (w.fits.from_low _) (w.fits.to_low _))

@@ -3,4 +3,4 @@ use Rattle.book.proofs.Bits.{machine_put}
 use Rattle.judgement.proofs.side.Side.with_ends.Goals as goal
 
 pub returns : goal.returns
-returns c = rw (machine_put 64 _ _ c.requires.0) (machine_put 64 _ _ c.requires.1)
+returns c = rw (machine_put 64 _ _ c.args.ends.low.0) (machine_put 64 _ _ c.args.ends.low.1)

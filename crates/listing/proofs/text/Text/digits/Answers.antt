@@ -15,6 +15,3 @@ nonzero_div-n c = omega (arith, c.pow.ensures, power_pos c.args.base c.requires.
 
 pub loop-i-preserved : goal.loop-i-preserved
 loop-i-preserved c = spelled_next _ _ _ _ c.loop-i.i c.loop-i.invariant c.loop-i-test.true c.loop-i.auto.i (rw (c.glyph.ensures, c.pow.ensures) at c.byte-t.ensures)
-
-pub returns : goal.returns
-returns c = spelled_done _ _ _ _ c.loop-i.i c.loop-i.invariant c.loop-i-test.false

@@ -3,7 +3,7 @@
 use mathlib.Core.Path.{◌≡◌}
 use Rattle.judgement.specs.Judgement.{sum}
 use Rattle.judgement.proofs.Excess.{excess_in}
-use Rattle.judgement.proofs.load.excess.Given as goal
+use Rattle.judgement.proofs.load.Loaded.excess.Given as goal
 
 abbrev pub invariant-loop-k : goal.invariant-loop-k
-invariant-loop-k l = l.total ≡ sum (excess_in l.b.book l.loads) l.k
+invariant-loop-k l = l.total ≡ sum (excess_in l.self.judgeable.now.book l.self.loads) l.k

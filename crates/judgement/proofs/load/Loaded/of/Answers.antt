@@ -4,7 +4,7 @@ use Prim.Native.Nat.{◌*◌}
 use Rattle.book.proofs.Routes.{lent}
 use Rattle.judgement.proofs.Usable.{usable_lightpaths}
 use Rattle.judgement.proofs.Loads.{tallied_start, tallied_room, tallied_next}
-use Rattle.judgement.proofs.load.loads_of.Goals as goal
+use Rattle.judgement.proofs.load.Loaded.of.Goals as goal
 
 pub loop-k-init : goal.loop-k-init
 loop-k-init c = tallied_start _
