@@ -2,6 +2,8 @@
 // number, a sentence on the error output says so and nothing is printed. `./gristvalley` starts it, and makes a status of what it tells.
 #![tactic(auto)]
 
+ghost use Rattle.std.specs.Prelude.{◌≤◌, length};
+
 use book::write;
 use console::Status;
 use listing::number::NotNumber;
@@ -47,7 +49,9 @@ fn number_at(rt: &HostRuntime, i: usize, name: &[u8]) -> Option<u32> {
 }
 
 // The bytes of argument i, which are put into the space; none where it is missing or does not fit, since what is said of a missing name may not change.
-fn word_at<'a>(rt: &HostRuntime, i: usize, space: &'a mut [u8]) -> &'a [u8] {
+fn word_at<'a>(rt: &HostRuntime, i: usize, space: &'a mut [u8]) -> &'a [u8]
+    ensures { length result.now ≤ length space.old }
+{
     let n = rt.arg(i, space).unwrap_or(0);
     &space[..n]
 }
@@ -114,7 +118,7 @@ fn write_out(rt: &HostRuntime, s: &[u8]) {
         let mut out = [0u8; 4096];
         match write::write(s, n, &mut out) {
             Ok(len) => keep(rt, &out[..len]),
-            refused => console::answer(rt, commands::written(refused)),
+            Err(r) => console::answer(rt, commands::written(Err((r.fault.number(), r.place)))),
         }
     }
 }
@@ -131,9 +135,8 @@ fn named(rt: &HostRuntime, s: &[u8]) {
         return;
     }
     let mut out = [0u8; 4096];
-    let w = write::write(s, 0, &mut out);
-    match w {
-        Ok(_) => console::answer(rt, commands::written(w)),
+    match write::write(s, 0, &mut out) {
+        Ok(len) => console::answer(rt, commands::written(Ok(len))),
         Err(_) => console::say(rt, b"gristvalley: OUT does not hold what was written\n"),
     }
 }

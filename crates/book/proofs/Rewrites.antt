@@ -1,7 +1,7 @@
 -- A book with other lightpaths differs from the old one only in its LP records: what stands first and behind them is copied as it stands.
 -- The bytes before them are counted from the numbers of nodes and spans, whose records all have one width.
 use Prim.Native.Nat.{ℕ, ◌+◌, ◌-◌, ◌*◌, ◌≤◌, ◌<◌}
-use mathlib.Core.Path.{◌≡◌, refl, sym, ap, ◌∙◌}
+use mathlib.Core.Path.{◌≡◌, refl, sym, ap, subst, ◌∙◌}
 use mathlib.Core.List.{List, [], ◌∷◌, ◌++◌, append_assoc}
 use mathlib.Core.Bool.{Bool, true, false, cond}
 use native.Mathlib.Omega.{arith}
@@ -64,11 +64,11 @@ pub record Rewriting (s : List ℕ) (n : ℕ) (old new : Book) : Type 0 where
   pub new_fits : well_formed (chosen book n) ≡ true
   pub asked : chosen_of (reading s) n ≡ good (chosen book n)
 
-pub rewriting : (s : List ℕ) (n : ℕ) {old new : Book} → Bytes s → ◌≡◌ {A = Result Book Refusal} (Ok old) (shown (reading s))
-    → ((m : RouteBook) → old ≡ book_of m → well_formed m ≡ true → ◌≡◌ {A = Result Book Refusal} (Ok new) (shown (chosen_of (good m) n))) → Rewriting s n old new
-rewriting s n {old} {new} h e told =
+pub rewriting : (s : List ℕ) (n : ℕ) {k : ℕ} {old new : Book} → k ≡ n → Bytes s → ◌≡◌ {A = Result Book Refusal} (Ok old) (shown (reading s))
+    → ((m : RouteBook) → old ≡ book_of m → well_formed m ≡ true → ◌≡◌ {A = Result Book Refusal} (Ok new) (shown (chosen_of (good m) k))) → Rewriting s n old new
+rewriting s n {k} {old} {new} same h e told =
     let g = reply_read s h e in
-    let z = go g.book (ltb n (choices g.book)) (told g.book g.is.held g.is.fits) in
+    let z = go g.book (ltb n (choices g.book)) (subst (λ (i : ℕ). ◌≡◌ {A = Result Book Refusal} (Ok new) (shown (chosen_of (good g.book) i))) same (told g.book g.is.held g.is.fits)) in
     record { book = g.book; read = g.is; new_is = z.0; new_fits = choice_fits g.book n g.is.fits; asked = ap (λ (x : Reading). chosen_of x n) g.reads ∙ z.1 }
   where
     go : (m : RouteBook) (t : Bool) → ◌≡◌ {A = Result Book Refusal} (Ok new) (shown (cond t (good (chosen m n)) (refused 12 0)))

@@ -16,6 +16,7 @@ ghost use Rattle.face.specs.Numbers.{roomy, stored, read_row, judged_row, contra
 use numbers::store;
 
 // Reads a book.
+#[tactic(auto, using(crate::proofs::Rows::row_read))]
 #[unsafe(no_mangle)]
 pub extern "C" fn gristvalley_read(s: &[u8], out: &mut [u64]) -> bool
     ensures { (result ≡ roomy out.old) × (out.new ≡ stored (read_row (reading s.now)) out.old) }

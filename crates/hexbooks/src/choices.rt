@@ -39,11 +39,16 @@ fn letter(d: u8) -> u8
     }
 }
 
-// Writes bytes as hex.
-fn print_hex(b: &[u8]) {
-    for x in b {
-        word(&[letter(*x / 16), letter(*x % 16)]);
+// Writes a short buffer as hex, all of it in one write.
+fn print_hex(b: &[u8])
+    requires { length b.now ≤ SHORT }
+{
+    let mut text = [0u8; 2 * SHORT];
+    for (i, x) in b.iter().enumerate() {
+        text[2 * i] = letter(*x / 16);
+        text[2 * i + 1] = letter(*x % 16);
     }
+    word(&text[..2 * b.len()]);
 }
 
 // The Adler-32 checksum.

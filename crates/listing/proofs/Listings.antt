@@ -103,9 +103,9 @@ read_short (good m) =
     )
 read_short (refused k p) = omega (arith, bad_short k p)
 
-pub written_short : (w : Result ℕ Refusal) → length (write_of w) ≤ 428
+pub written_short : (w : Result ℕ (ℕ × ℕ)) → length (write_of w) ≤ 428
 written_short (Ok l) = omega (arith, length-append (written_line l) end_line, behind_short word_written (l ∷ []) (10 ∷ []))
-written_short (Err r) = omega (arith, bad_short (fault_number r.fault) r.place)
+written_short (Err r) = omega (arith, bad_short r.0 r.1)
 
 -- so the text that is handed back is all that there is to print
 module _ (s : List ℕ) (n : ℕ) (t : Text) where
@@ -122,7 +122,7 @@ module _ (t : Text) where
   pub read_whole : (s : List ℕ) → t ≡ text_of (read_of (reading s)) → take t.len t.bytes ≡ read_of (reading s)
   read_whole s e = text_whole _ (omega (arith, read_short (reading s))) e
 
-  pub written_whole : (w : Result ℕ Refusal) → t ≡ text_of (write_of w) → take t.len t.bytes ≡ write_of w
+  pub written_whole : (w : Result ℕ (ℕ × ℕ)) → t ≡ text_of (write_of w) → take t.len t.bytes ≡ write_of w
   written_whole w e = text_whole _ (omega (arith, written_short w)) e
 
   pub refused_whole : (k p : ℕ) → t ≡ text_of (bad_text k p) → take t.len t.bytes ≡ bad_text k p

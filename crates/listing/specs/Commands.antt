@@ -63,10 +63,10 @@ read_of (refused k p) = bad_text k p
 abbrev pub written_line : ℕ → List ℕ
 written_line l = line word_written (l ∷ [])
 
--- C8, C9: `write`, by the writer's answer
-abbrev pub write_of : Result ℕ Refusal → List ℕ
+-- C8, C9: `write`, by the writer's answer: a length, or a refusal's number and place
+abbrev pub write_of : Result ℕ (ℕ × ℕ) → List ℕ
 write_of (Ok l) = written_line l ++ end_line
-write_of (Err r) = bad_text (fault_number r.fault) r.place
+write_of (Err r) = bad_text r.0 r.1
 
 -- C10: whether an answer is a refusal, by its first two bytes: they are those of the word BAD, and of no other first word
 abbrev pub is_refusal : Text → Bool

@@ -79,13 +79,13 @@ pub fn read(s: &[u8]) -> Text
     counted(s).unwrap_or_else(Text::refused)
 }
 
-// What the writer answered.
-pub fn written(w: Result<usize, Refusal>) -> Text
+// What the writer answered: how many bytes it wrote, or a refusal's number and place. These may be any, since a `Refusal` would ask more of a caller.
+pub fn written(w: Result<usize, (u8, usize)>) -> Text
     ensures { result ≡ text_of (write_of w) }
 {
     match w {
         Ok(len) => Text::none().written_line(len).end_line(),
-        Err(refusal) => Text::refused(refusal),
+        Err((number, place)) => refused(number, place),
     }
 }
 

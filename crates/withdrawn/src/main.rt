@@ -126,8 +126,7 @@ fn print_book(s: &[u8]) {
         Ok(b) => {
             let t = Tallies::of(s, b.spans);
             print(b"SPANS", u64::from(b.spans));
-            io::write_all(STDOUT_FILENO, b"\n");
-            print_tally(b"SETS", t.sets);
+            print_tally(b"\nSETS", t.sets);
             print_tally(b"LOSSES", t.losses);
         }
         Err(r) => {

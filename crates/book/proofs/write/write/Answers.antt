@@ -15,7 +15,7 @@ use Rattle.book.proofs.write.write.Goals.{In_ok-new}
 
 -- once both are read, the new book is the old one's choice n
 made : (c : In_ok-new) → Rewriting c.args.s.now c.args.n c.in_ok-old.old c.in_ok-new.new
-made c = rewriting _ _ (all_bytes c.args.s.now (λ i. omega (arith, c.type_inv.s i))) c.in_ok-old.ensures c.in_ok-new.ensures
+made c = rewriting _ _ (omega arith) (all_bytes c.args.s.now (λ i. omega (arith, c.type_inv.s i))) c.in_ok-old.ensures c.in_ok-new.ensures
 
 pub returns-in_err-new : goal.returns-in_err-new
 returns-in_err-new c =

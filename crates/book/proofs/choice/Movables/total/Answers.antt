@@ -1,6 +1,7 @@
 -- The sizes go by in the order of the digits, and their product is the number of choices.
 -- Each is at most 8, so that the product of some of them fits.
 use Prim.Native.Nat.{suc, min}
+use native.Mathlib.Omega.{arith}
 use borrow.Author.Rules.{rules}
 use borrow.Author.Tests.{tests}
 use Rattle.std.proofs.lemmas.Iterator.{YieldsList-from_slice, YieldsList-from_map}
@@ -13,4 +14,5 @@ product-requires-clause-fits c =
 
 pub returns : goal.returns
 returns c =
-    product_all c.args.self.more (YieldsList-from_map _ (λ x. suc (min x 7)) (YieldsList-from_slice c.args.self.more cc) c.map.ensures.closure (λ x r q k. search (rules, tests))) _ c.product.ensures.ran
+    let all = product_all c.args.self.more (YieldsList-from_map _ (λ x. suc (min x 7)) (YieldsList-from_slice c.args.self.more cc) c.map.ensures.closure (λ x r q k. search (rules, tests))) _ c.product.ensures.ran in
+    omega (arith, all)
